@@ -1,0 +1,1 @@
+// The gathering rules and demand 3 are definitions and theorems: see specs/.

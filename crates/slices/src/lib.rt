@@ -1,0 +1,49 @@
+// Parts of slices: copied, written, zeroed.
+ghost use mathlib.Core.Path.{_≡_};
+ghost use Prim.Native.Nat.{_+_, _≤_};
+ghost use lib.ListN.{length, replicate};
+ghost use Rattle.slices.specs.Splice.{splice, part};
+
+// `count` bytes of `src` from `from` on, to `dst` at `at`.
+pub fn copy_part(src: &[u8], from: usize, count: usize, dst: &mut [u8], at: usize)
+    requires { ⌜ (from + count ≤ length (now src)) × (at + count ≤ length (now dst)) ⌝ }
+    ensures { λ _. ⌜ now (dst .exit) ≡ splice (now (dst .entry)) at (part (now (src .entry)) from count) ⌝ }
+{
+    let mut i: usize = 0;
+    while i < count {
+        dst[at + i] = src[from + i];
+        i += 1;
+    }
+}
+
+// All of `bytes`, to `dst` at `at`.
+pub fn write_at(dst: &mut [u8], at: usize, bytes: &[u8])
+    requires { ⌜ at + length (now bytes) ≤ length (now dst) ⌝ }
+    ensures { λ _. ⌜ now (dst .exit) ≡ splice (now (dst .entry)) at (now (bytes .entry)) ⌝ }
+{
+    copy_part(bytes, 0, bytes.len(), dst, at);
+}
+
+// `count` bytes of `dst` from `at` on become zero.
+pub fn clear_bytes(dst: &mut [u8], at: usize, count: usize)
+    requires { ⌜ at + count ≤ length (now dst) ⌝ }
+    ensures { λ _. ⌜ now (dst .exit) ≡ splice (now (dst .entry)) at (replicate count 0) ⌝ }
+{
+    let mut i: usize = 0;
+    while i < count {
+        dst[at + i] = 0;
+        i += 1;
+    }
+}
+
+// `count` numbers of `dst` from `at` on become zero.
+pub fn clear_numbers(dst: &mut [u32], at: usize, count: usize)
+    requires { ⌜ at + count ≤ length (now dst) ⌝ }
+    ensures { λ _. ⌜ now (dst .exit) ≡ splice (now (dst .entry)) at (replicate count 0) ⌝ }
+{
+    let mut i: usize = 0;
+    while i < count {
+        dst[at + i] = 0;
+        i += 1;
+    }
+}

@@ -1,0 +1,4 @@
+pub mod Kind
+pub mod Letters
+pub mod Field
+pub mod Packed

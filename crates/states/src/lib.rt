@@ -1,0 +1,146 @@
+// The state kinds of a vector, the nine-state table, and values in packed bytes.
+ghost use mathlib.Core.Path.{_≡_};
+ghost use Prim.Native.Nat.{_+_, _-_, _*_, _≤_, _<_, _/_, _%_, _^_};
+ghost use lib.ListN.{length};
+ghost use Rattle.states.specs.Kind.{bits, mask, perByte, bytesRequired, stateOf};
+ghost use Rattle.states.specs.Letters.{mapped};
+ghost use Rattle.states.specs.Field.{fieldGet, fieldSet};
+ghost use Rattle.states.specs.Packed.{fieldAt, setAt, valuePlace};
+
+pub enum States {
+    Two,
+    Nine,
+}
+
+impl States {
+    pub const TWO_BITS: u32 = 1;
+
+    pub const NINE_BITS: u32 = 4;
+
+    pub const TWO_MASK: u8 = 1;
+
+    pub const NINE_MASK: u8 = 15;
+
+    pub const TWO_IN_A_BYTE: usize = 8;
+
+    pub const NINE_IN_A_BYTE: usize = 2;
+
+    // Bits per value.
+    pub fn bits(self) -> u32
+        ensures { λ r. ⌜ r ≡ bits self ⌝ }
+    {
+        match self {
+            States::Two => States::TWO_BITS,
+            States::Nine => States::NINE_BITS,
+        }
+    }
+
+    pub fn mask(self) -> u8
+        ensures { λ r. ⌜ r ≡ mask self ⌝ }
+    {
+        match self {
+            States::Two => States::TWO_MASK,
+            States::Nine => States::NINE_MASK,
+        }
+    }
+
+    // Values per byte.
+    pub fn bits_in_a_byte(self) -> usize
+        ensures { λ r. ⌜ r ≡ perByte self ⌝ }
+    {
+        match self {
+            States::Two => States::TWO_IN_A_BYTE,
+            States::Nine => States::NINE_IN_A_BYTE,
+        }
+    }
+
+    // The bytes that the values of a vector of this width take.
+    pub fn bytes_required(self, width: usize) -> usize
+        ensures { λ r. ⌜ r ≡ bytesRequired self width ⌝ }
+    {
+        match self {
+            States::Two => width / 8 + (width % 8 + 7) / 8,
+            States::Nine => width / 2 + width % 2,
+        }
+    }
+
+    // The kind that a table's number names.
+    pub fn of(number: u8) -> States
+        ensures { λ r. ⌜ r ≡ stateOf number ⌝ }
+    {
+        if number == 0 {
+            States::Nine
+        } else {
+            States::Two
+        }
+    }
+}
+
+// From IEEE 1164's order to the order of the crate.
+pub const STD_LOGIC_LUT: [u8; 9] = [5, 2, 0, 1, 3, 6, 7, 4, 8];
+
+pub fn std_logic(value: u8) -> u8
+    requires { ⌜ value ≤ 8 ⌝ }
+    ensures { λ r. ⌜ r ≡ mapped value ⌝ }
+{
+    STD_LOGIC_LUT[value as usize]
+}
+
+// A field of a byte, by shifts and masks.
+fn get_field(byte: u8, shift: u32, width: u32, mask: u8) -> u8
+    requires { ⌜ (shift < 8) × (mask ≡ 2 ^ width - 1) ⌝ }
+    ensures { λ r. ⌜ r ≡ fieldGet width shift byte ⌝ }
+{
+    (byte >> shift) & mask
+}
+
+fn set_field(byte: u8, shift: u32, width: u32, mask: u8, value: u8) -> u8
+    requires { ⌜ (shift + width ≤ 8) × (0 < width) × (mask ≡ 2 ^ width - 1) × (value < 2 ^ width) ⌝ }
+    ensures { λ r. ⌜ r ≡ fieldSet width shift byte value ⌝ }
+{
+    (byte & !(mask << shift)) | (value << shift)
+}
+
+// The field whose lowest bit has the number `p` in `packed`, eight to a byte.
+pub fn get_at(packed: &[u8], p: usize, width: u32, mask: u8) -> u8
+    requires { ⌜ (p / 8 < length (now packed)) × (mask ≡ 2 ^ width - 1) ⌝ }
+    ensures { λ r. ⌜ r ≡ fieldAt width p (now (packed .entry)) ⌝ }
+{
+    get_field(packed[p / 8], (p % 8) as u32, width, mask)
+}
+
+pub fn set_at(packed: &mut [u8], p: usize, width: u32, mask: u8, value: u8)
+    requires { ⌜ (p / 8 < length (now packed)) × (p % 8 + width ≤ 8) × (0 < width) × (mask ≡ 2 ^ width - 1) × (value < 2 ^ width) ⌝ }
+    ensures { λ _. ⌜ now (packed .exit) ≡ setAt width p (now (packed .entry)) value ⌝ }
+{
+    let i = p / 8;
+    packed[i] = set_field(packed[i], (p % 8) as u32, width, mask, value);
+}
+
+// Where the value of a bit lies, of a vector whose `bytes` value bytes start at `at`.
+fn value_place(states: States, at: usize, bytes: usize, bit: usize) -> usize
+    requires { ⌜ (bit < perByte states * bytes) × (at + bytes ≤ 1073741823) ⌝ }
+    ensures { λ r. ⌜ r ≡ valuePlace states at bytes bit ⌝ }
+{
+    match states {
+        States::Two => 8 * (at + (bytes - 1 - bit / 8)) + bit % 8,
+        States::Nine => 8 * (at + (bytes - 1 - bit / 2)) + bit % 2 * 4,
+    }
+}
+
+// The value of a bit of a vector whose `bytes` value bytes start at `at` in `packed`.
+pub fn get_value(packed: &[u8], states: States, at: usize, bytes: usize, bit: usize) -> u8
+    requires { ⌜ (bit < perByte states * bytes) × (at + bytes ≤ length (now packed)) × (at + bytes ≤ 1073741823) ⌝ }
+    ensures { λ r. ⌜ r ≡ fieldAt (bits states) (valuePlace states at bytes bit) (now (packed .entry)) ⌝ }
+{
+    let p = value_place(states, at, bytes, bit);
+    get_at(packed, p, states.bits(), states.mask())
+}
+
+pub fn set_value(packed: &mut [u8], states: States, at: usize, bytes: usize, bit: usize, value: u8)
+    requires { ⌜ (bit < perByte states * bytes) × (at + bytes ≤ length (now packed)) × (at + bytes ≤ 1073741823) × (value < 2 ^ bits states) ⌝ }
+    ensures { λ _. ⌜ now (packed .exit) ≡ setAt (bits states) (valuePlace states at bytes bit) (now (packed .entry)) value ⌝ }
+{
+    let p = value_place(states, at, bytes, bit);
+    set_at(packed, p, states.bits(), states.mask(), value);
+}
