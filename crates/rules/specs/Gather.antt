@@ -7,6 +7,11 @@ use mathlib.Core.Bool.{Bool, true, false, cond, _||_}
 use mathlib.Core.List.{List, [], _∷_, _++_, map}
 use lib.Dec.{eqb}
 use Rattle.rules.specs.Vector.{Write, Op, start, put, stop, Cause, ended, Item, began, over, Vec, any, fresh, fires, act}
+pub mod Laws
+pub mod Own
+pub mod Echo
+pub mod Firsts
+pub mod Order
 
 -- the tables: for each id the number of its vector (0 for none), for each vector its least and greatest id
 pub record Tables : Type 0 where

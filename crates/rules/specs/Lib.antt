@@ -1,3 +1,11 @@
 pub mod Vector
 pub mod Gather
+pub mod History
 pub mod Owned
+pub mod Steps
+pub mod Literal
+pub mod Demand3
+pub mod Early
+pub mod Once
+pub mod Swapped
+pub mod Examples

@@ -9,6 +9,10 @@ use mathlib.Core.List.{List, [], _∷_, List·Memᴰ}
 use lib.ListN.{length, getD}
 use lib.Dec.{eqb, T}
 use Rattle.rules.specs.Vector.{Write, Op, start, put, stop, Cause, rewritten, complete, ended, Item, began, wrote, shown, over}
+pub mod Latest
+pub mod Tracks
+pub mod Laws
+pub mod Mistakes
 
 -- the latest write of a bit
 pub latest : ℕ → List Write → Option Write

@@ -6,6 +6,8 @@ use mathlib.Core.Bool.{Bool, true, false, not, _&&_, _||_}
 use mathlib.Core.List.{List, [], _∷_, _++_}
 use lib.ListN.{length, getD, set, replicate}
 use lib.Dec.{eqb, leb}
+pub mod Laws
+pub mod Apart
 
 -- a write of one bit: its value is mapped already, and `pos` is its place in the input
 pub record Write : Type 0 where

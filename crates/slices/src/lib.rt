@@ -2,7 +2,28 @@
 ghost use mathlib.Core.Path.{_≡_};
 ghost use Prim.Native.Nat.{_+_, _≤_};
 ghost use lib.ListN.{length, replicate};
+ghost use Rattle.slices.specs.Field.{fieldOf};
 ghost use Rattle.slices.specs.Splice.{splice, part};
+
+// The place after a field, or that the input ends before its end.
+pub enum Field {
+    Next(usize),
+    Short,
+}
+
+// A field of `n` bytes at `at`.
+pub fn field_at(s: &[u8], at: usize, n: usize) -> Field
+    ensures { λ r. ⌜ r ≡ fieldOf n (now (s .entry)) at ⌝ }
+{
+    if s.len() < n {
+        return Field::Short;
+    }
+    if at <= s.len() - n {
+        Field::Next(at + n)
+    } else {
+        Field::Short
+    }
+}
 
 // `count` bytes of `src` from `from` on, to `dst` at `at`.
 pub fn copy_part(src: &[u8], from: usize, count: usize, dst: &mut [u8], at: usize)

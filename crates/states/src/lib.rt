@@ -117,14 +117,22 @@ pub fn set_at(packed: &mut [u8], p: usize, width: u32, mask: u8, value: u8)
     packed[i] = set_field(packed[i], (p % 8) as u32, width, mask, value);
 }
 
+// "Bit 0 lies lowest in the last byte": the byte of the `k`-th group of values.
+fn from_last(bytes: usize, k: usize) -> usize
+    requires { ⌜ k < bytes ⌝ }
+    ensures { λ r. ⌜ r ≡ bytes - 1 - k ⌝ }
+{
+    bytes - 1 - k
+}
+
 // Where the value of a bit lies, of a vector whose `bytes` value bytes start at `at`.
 fn value_place(states: States, at: usize, bytes: usize, bit: usize) -> usize
     requires { ⌜ (bit < perByte states * bytes) × (at + bytes ≤ 1073741823) ⌝ }
     ensures { λ r. ⌜ r ≡ valuePlace states at bytes bit ⌝ }
 {
     match states {
-        States::Two => 8 * (at + (bytes - 1 - bit / 8)) + bit % 8,
-        States::Nine => 8 * (at + (bytes - 1 - bit / 2)) + bit % 2 * 4,
+        States::Two => 8 * (at + from_last(bytes, bit / 8)) + bit % 8,
+        States::Nine => 8 * (at + from_last(bytes, bit / 2)) + bit % 2 * 4,
     }
 }
 

@@ -7,11 +7,8 @@ use Rattle.states.proofs.value_place.Tie as tie
 enum-told : tie.Need-enum-told
 enum-told c = search (kind-laws, needs)
 
-sub-result : tie.Need-sub-result
-sub-result c = search (kind-laws, needs)
-
-sub-result-2 : tie.Need-sub-result-2
-sub-result-2 c = search (kind-laws, needs)
+from-last-requires : tie.Need-from-last-requires
+from-last-requires c κs = search (kind-laws, needs)
 
 add-result : tie.Need-add-result
 add-result c = search (kind-laws, needs)
@@ -25,11 +22,8 @@ add-result-2 c = search (kind-laws, needs)
 enum-told-2 : tie.Need-enum-told-2
 enum-told-2 c = search (kind-laws, needs)
 
-sub-result-3 : tie.Need-sub-result-3
-sub-result-3 c = search (kind-laws, needs)
-
-sub-result-4 : tie.Need-sub-result-4
-sub-result-4 c = search (kind-laws, needs)
+from-last-requires-2 : tie.Need-from-last-requires-2
+from-last-requires-2 c κs = search (kind-laws, needs)
 
 add-result-3 : tie.Need-add-result-3
 add-result-3 c = search (kind-laws, needs)
@@ -54,14 +48,12 @@ value-place-spec =
     tie.close
     (tie.spec
     enum-told
-    sub-result
-    sub-result-2
+    from-last-requires
     add-result
     mul-result
     add-result-2
     enum-told-2
-    sub-result-3
-    sub-result-4
+    from-last-requires-2
     add-result-3
     mul-result-2
     mul-result-3

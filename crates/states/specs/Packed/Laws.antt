@@ -112,26 +112,20 @@ value-seen s at n b c hb hc =
 -- ---- what the code of a place asks and says, by the kind
 
 module _ (s : States) (z : s ≡ Two) where
-  pub some-two : (n b : ℕ) → b < perByte s * n → 1 ≤ n
-  some-two n b h = let g : b < 8 * n = rw z at h in omega (arith, g)
-
-  pub top-two : (n b : ℕ) → b < perByte s * n → b / 8 ≤ n - 1
+  pub top-two : (n b : ℕ) → b < perByte s * n → b / 8 < n
   top-two n b h = let g : b < 8 * n = rw z at h in omega (arith, g)
 
-  pub place-two : (at n b : ℕ) → 8 * (at + (n - 1 - b / 8)) + b % 8 ≡ valuePlace s at n b
+  pub place-two : (at n b k : ℕ) → k ≡ n - 1 - b / 8 → 8 * (at + k) + b % 8 ≡ valuePlace s at n b
   unfolding valuePlace
-  place-two at n b = rw z (omega arith)
+  place-two at n b k e = rw (z, e) (omega arith)
 
 module _ (s : States) (z : s ≡ Nine) where
-  pub some-nine : (n b : ℕ) → b < perByte s * n → 1 ≤ n
-  some-nine n b h = let g : b < 2 * n = rw z at h in omega (arith, g)
-
-  pub top-nine : (n b : ℕ) → b < perByte s * n → b / 2 ≤ n - 1
+  pub top-nine : (n b : ℕ) → b < perByte s * n → b / 2 < n
   top-nine n b h = let g : b < 2 * n = rw z at h in omega (arith, g)
 
-  pub place-nine : (at n b : ℕ) → 8 * (at + (n - 1 - b / 2)) + b % 2 * 4 ≡ valuePlace s at n b
+  pub place-nine : (at n b k : ℕ) → k ≡ n - 1 - b / 2 → 8 * (at + k) + b % 2 * 4 ≡ valuePlace s at n b
   unfolding valuePlace
-  place-nine at n b = rw z
+  place-nine at n b k e = rw (z, e)
 
 -- the bytes that a width requires, without a sum that could wrap
 pub bytes-two : (s : States) (w : ℕ) → s ≡ Two → w / 8 + (w % 8 + 7) / 8 ≡ bytesRequired s w
@@ -180,7 +174,7 @@ module _ (s : States) (at n b p width : ℕ) (place : p ≡ valuePlace s at n b)
   pub place-set : (l l' : List ℕ) (x : ℕ) → l' ≡ setAt width p l x → l' ≡ setAt (bits s) (valuePlace s at n b) l x
   place-set l l' x e = e ∙ rw (place, wide)
 
-pub ruleset kind-laws = (bytes-two, bytes-nine, state-nine, state-two, some-two, top-two, place-two, some-nine, top-nine, place-nine)
+pub ruleset kind-laws = (bytes-two, bytes-nine, state-nine, state-two, top-two, place-two, top-nine, place-nine)
 
 pub ruleset field-laws = (got-field, set-field)
 

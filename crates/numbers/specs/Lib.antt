@@ -1,0 +1,5 @@
+-- The definitions that the promises of `numbers` cite.
+-- Assumes nothing.
+pub mod Fixed
+pub mod Leb128
+pub mod Marks

@@ -1,0 +1,67 @@
+// "Integers of fixed size follow the flag."
+use crate::house::from_be_bytes;
+use crate::house::get_u32;
+use crate::house::get_u64;
+ghost use mathlib.Core.Path.{_≡_};
+ghost use Prim.Native.Nat.{_+_, _≤_};
+ghost use lib.ListN.{length};
+ghost use Rattle.slices.specs.Splice.{part};
+ghost use Rattle.numbers.specs.Fixed.{little, fixed, positive};
+
+// A signed number of 32 bits, told apart by its sign.
+pub enum Positive {
+    Number(u32),
+    Negative,
+}
+
+// A signed number of 64 bits, as its bits.
+pub fn read_i64(big_endian: bool, s: &[u8], at: usize) -> u64
+    requires { ⌜ at + 8 ≤ length (now s) ⌝ }
+    ensures { λ r. ⌜ r ≡ fixed «big_endian» (part (now (s .entry)) at 8) ⌝ }
+{
+    if big_endian {
+        get_u64(s, at)
+    } else {
+        read_f64_le(s, at)
+    }
+}
+
+// A signed number of 32 bits that must not be negative.
+pub fn read_u32(big_endian: bool, s: &[u8], at: usize) -> Positive
+    requires { ⌜ at + 4 ≤ length (now s) ⌝ }
+    ensures { λ r. ⌜ r ≡ positive (fixed «big_endian» (part (now (s .entry)) at 4)) ⌝ }
+{
+    let v = read_i32(big_endian, s, at);
+    if v < 0x8000_0000 {
+        Positive::Number(v)
+    } else {
+        Positive::Negative
+    }
+}
+
+// A signed number of 32 bits, as its bits.
+fn read_i32(big_endian: bool, s: &[u8], at: usize) -> u32
+    requires { ⌜ at + 4 ≤ length (now s) ⌝ }
+    ensures { λ r. ⌜ r ≡ fixed «big_endian» (part (now (s .entry)) at 4) ⌝ }
+{
+    if big_endian {
+        get_u32(s, at)
+    } else {
+        little_u32(s, at)
+    }
+}
+
+// The bits of a real, which is little-endian whatever the flag says.
+pub fn read_f64_le(s: &[u8], at: usize) -> u64
+    requires { ⌜ at + 8 ≤ length (now s) ⌝ }
+    ensures { λ r. ⌜ r ≡ little (part (now (s .entry)) at 8) ⌝ }
+{
+    little_u32(s, at) as u64 + little_u32(s, at + 4) as u64 * 0x1_0000_0000
+}
+
+fn little_u32(s: &[u8], at: usize) -> u32
+    requires { ⌜ at + 4 ≤ length (now s) ⌝ }
+    ensures { λ r. ⌜ r ≡ little (part (now (s .entry)) at 4) ⌝ }
+{
+    from_be_bytes(s[at + 3], s[at + 2], s[at + 1], s[at])
+}

@@ -1,0 +1,34 @@
+-- `numbers_run::lebs::places` is safe and ends. Assumes nothing.
+use Prim.Native.Nat.{_-_, _≤_}
+use borrow.Author.Needs.{needs}
+use Rattle.numbers_run.proofs.lebs.places.Statement.{statement}
+use Rattle.numbers_run.proofs.lebs.places.Tie as tie
+
+abbrev Inv-loop : tie.InvT-loop
+Inv-loop at₀ at = at ≤ 14
+
+abbrev μ-loop : tie.MeasureT-loop
+μ-loop at₀ at = 14 - at
+
+loop-holds : tie.Need-loop-holds Inv-loop μ-loop
+loop-holds c = search needs
+
+place-requires : tie.Need-place-requires Inv-loop μ-loop
+place-requires c κs = search needs
+
+add-at : tie.Need-add-at Inv-loop μ-loop
+add-at c = search needs
+
+loop-less : tie.Need-loop-less Inv-loop μ-loop
+loop-less c = search needs
+
+loop-again : tie.Need-loop-again Inv-loop μ-loop
+loop-again c = search needs
+
+returns : tie.Need-returns Inv-loop μ-loop
+returns c = search needs
+
+pub places-spec : {M : Type 1} → statement M
+places-spec =
+    tie.close
+    (tie.spec Inv-loop μ-loop loop-holds place-requires add-at loop-less loop-again returns)

@@ -1,0 +1,46 @@
+-- `numbers_run::marked::altered_at` is safe and ends. Assumes nothing.
+use Prim.Native.Nat.{_-_, _≤_}
+use borrow.Author.Needs.{needs}
+use Rattle.numbers_run.proofs.marked.altered_at.Statement.{statement}
+use Rattle.numbers_run.proofs.marked.altered_at.Tie as tie
+
+abbrev Inv-loop : tie.InvT-loop
+Inv-loop at j known₀ v₀ known v = (v ≤ 255) × (known ≤ v)
+
+abbrev μ-loop : tie.MeasureT-loop
+μ-loop at j known₀ v₀ known v = 255 - v
+
+loop-holds : tie.Need-loop-holds Inv-loop μ-loop
+loop-holds c = search needs
+
+altered-to-requires : tie.Need-altered-to-requires Inv-loop μ-loop
+altered-to-requires c κs = search needs
+
+add-known : tie.Need-add-known Inv-loop μ-loop
+add-known c = search needs
+
+returns : tie.Need-returns Inv-loop μ-loop
+returns c = search needs
+
+add-v : tie.Need-add-v Inv-loop μ-loop
+add-v c = search needs
+
+loop-less : tie.Need-loop-less Inv-loop μ-loop
+loop-less c = search needs
+
+loop-again : tie.Need-loop-again Inv-loop μ-loop
+loop-again c = search needs
+
+pub altered-at-spec : {M : Type 1} → statement M
+altered-at-spec =
+    tie.close
+    (tie.spec
+    Inv-loop
+    μ-loop
+    loop-holds
+    altered-to-requires
+    add-known
+    returns
+    add-v
+    loop-less
+    loop-again)

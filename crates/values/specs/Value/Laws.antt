@@ -1,0 +1,196 @@
+-- Laws of values: what the readers of each kind find, and where a value that was found ends.
+-- Assumes nothing.
+use mathlib.Core.Path.{_≡_, refl, sym, ap, subst, _∙_}
+use Prim.Native.Nat.{ℕ, zero, suc, _+_, _^_, _≤_, _<_}
+use mathlib.Core.Bool.{Bool, true, false, cond}
+use mathlib.Core.List.{List}
+use native.Mathlib.Omega.{arith}
+use borrow.Author.Tests.{le-leb, lt-leb, eq-eqb, ne-eqb, leb-true, leb-false, eqb-false}
+use lib.ListN.{length, getD}
+use lib.Dec.{leb, eqb}
+use Rattle.slices.specs.Choice.{cond-ind}
+use Rattle.slices.specs.Field.{fieldOf, field-next, field-short}
+use Rattle.slices.specs.declared.Field.{Field}
+use Rattle.slices.specs.declared.Field.the-variants.{Next, Short}
+use Rattle.slices.specs.Splice.{part}
+use Rattle.numbers.specs.Fixed.{little}
+use Rattle.numbers.specs.Leb128.{readUnsigned, readSigned, lebOf}
+use Rattle.numbers.specs.Leb128.Laws.{leb-within, Within}
+use Rattle.numbers.specs.declared.leb128.Leb.{Leb}
+use Rattle.numbers.specs.declared.leb128.Leb.the-variants as leb128
+use Rattle.states.specs.Letters.{mapped}
+use Rattle.states.specs.Letters.Laws.{mapped-most}
+use Rattle.values.specs.declared.Read.{Read}
+use Rattle.values.specs.declared.Read.the-variants.{Value, Bad}
+use Rattle.values.specs.Value.{onRead, number, unsigned, signed, byteUpTo, real, value, mostOf, Suits}
+
+-- ---- what the readers find
+
+module _ (i : ℕ) {l : Leb} where
+  pub number-value : {v next : ℕ} → l ≡ leb128.Value v next → Value v next ≡ number i l
+  unfolding number
+  number-value e = rw e
+
+  pub number-short : l ≡ leb128.Short → Bad 7 i ≡ number i l
+  unfolding number
+  number-short e = rw e
+
+  pub number-large : l ≡ leb128.Large → Bad 12 i ≡ number i l
+  unfolding number
+  number-large e = rw e
+
+pub unsigned-is : (s : List ℕ) (i : ℕ) {l : Leb} {r : Read} → l ≡ readUnsigned s i → r ≡ number i l → r ≡ unsigned s i
+unfolding unsigned
+unsigned-is s i p e = e ∙ ap (number i) p
+
+pub signed-is : (s : List ℕ) (i : ℕ) {l : Leb} {r : Read} → l ≡ readSigned s i → r ≡ number i l → r ≡ signed s i
+unfolding signed
+signed-is s i p e = e ∙ ap (number i) p
+
+module _ (most : ℕ) (map : ℕ → ℕ) (s : List ℕ) (i : ℕ) where
+  pub byte-none : length s ≤ i → Bad 7 i ≡ byteUpTo most map s i
+  unfolding byteUpTo
+  byte-none h = rw (lt-leb (i + 1) (length s) (omega arith))
+
+  module _ (h : i < length s) where
+    pub byte-found : getD s i 0 ≤ most → (v : ℕ) → v ≡ map (getD s i 0) → Value v (i + 1) ≡ byteUpTo most map s i
+    unfolding byteUpTo
+    byte-found b v e = rw (le-leb (i + 1) (length s) (omega arith), le-leb (getD s i 0) most b, e)
+
+    pub byte-over : most < getD s i 0 → Bad 14 i ≡ byteUpTo most map s i
+    unfolding byteUpTo
+    byte-over b = rw (le-leb (i + 1) (length s) (omega arith), lt-leb (getD s i 0) most b)
+
+-- a nine-state byte, through the table
+pub nine-found : (s : List ℕ) (i : ℕ) → i < length s → getD s i 0 ≤ 8 → (m v : ℕ) → m ≡ mapped (getD s i 0) → v ≡ m → Value v (i + 1) ≡ byteUpTo 8 mapped s i
+nine-found s i h b m v e f = byte-found 8 mapped s i h b v (f ∙ e)
+
+module _ (s : List ℕ) (i : ℕ) {f : Field} (e : f ≡ fieldOf 8 s i) where
+  pub real-found : {j : ℕ} → f ≡ Next j → (v : ℕ) → v ≡ little (part s i 8) → Value v j ≡ real s i
+  unfolding real
+  real-found d v p = let n = field-next 8 s i e d in rw (le-leb (i + 8) (length s) (n .1), n .0, p)
+
+  pub real-none : f ≡ Short → Bad 7 i ≡ real s i
+  unfolding real
+  real-none d = rw (lt-leb (i + 8) (length s) (field-short 8 s i e d))
+
+  pub real-inside : {j : ℕ} → f ≡ Next j → i + 8 ≤ length s
+  real-inside d = field-next 8 s i e d .1
+
+-- by the kind
+module _ (kind : ℕ) (s : List ℕ) (i : ℕ) {r : Read} where
+  pub value-nine : kind ≤ 1 → r ≡ byteUpTo 8 mapped s i → r ≡ value kind s i
+  unfolding value
+  value-nine h e = e ∙ rw (le-leb kind 1 h)
+
+  module _ (h : 1 < kind) where
+    pub value-two : kind ≤ 3 → r ≡ byteUpTo 1 (λ b. b) s i → r ≡ value kind s i
+    unfolding value
+    value-two l e = e ∙ rw (lt-leb kind 1 h, le-leb kind 3 l)
+
+    module _ (l : 3 < kind) where
+      pub value-byte : kind ≡ 4 → r ≡ byteUpTo 255 (λ b. b) s i → r ≡ value kind s i
+      unfolding value
+      value-byte k e = e ∙ rw (lt-leb kind 1 h, lt-leb kind 3 l, eq-eqb kind 4 k)
+
+      module _ (k : kind ≡ 4 → ⊥) where
+        pub value-integer : kind ≡ 5 → r ≡ signed s i → r ≡ value kind s i
+        unfolding value
+        value-integer j e = e ∙ rw (lt-leb kind 1 h, lt-leb kind 3 l, ne-eqb kind 4 k, eq-eqb kind 5 j)
+
+        pub value-real : (kind ≡ 5 → ⊥) → r ≡ real s i → r ≡ value kind s i
+        unfolding value
+        value-real j e = e ∙ rw (lt-leb kind 1 h, lt-leb kind 3 l, ne-eqb kind 4 k, ne-eqb kind 5 j)
+
+-- ---- where what was found ends
+
+-- a value that was found is not empty and lies within the input
+abbrev pub Ahead : List ℕ → ℕ → Read → Type 0
+Ahead s i (Value v next) = (i < next) × (next ≤ length s)
+Ahead s i (Bad n p) = Unit {0}
+
+number-ahead : (s : List ℕ) (i : ℕ) (l : Leb) → Within s i l → Ahead s i (number i l)
+unfolding number
+number-ahead s i (leb128.Value v next) w = (w .0, w .1)
+number-ahead s i leb128.Short w = tt
+number-ahead s i leb128.Large w = tt
+
+pub unsigned-ahead : (s : List ℕ) (i : ℕ) → Ahead s i (unsigned s i)
+unfolding unsigned
+unsigned-ahead s i = number-ahead s i (readUnsigned s i) (leb-within _ _ s i)
+
+pub signed-ahead : (s : List ℕ) (i : ℕ) → Ahead s i (signed s i)
+unfolding signed
+signed-ahead s i = number-ahead s i (readSigned s i) (leb-within _ _ s i)
+
+byte-ahead : (most : ℕ) (map : ℕ → ℕ) (s : List ℕ) (i : ℕ) → Ahead s i (byteUpTo most map s i)
+unfolding byteUpTo
+byte-ahead most map s i =
+    cond-ind (leb (i + 1) (length s)) _ _ (Ahead s i)
+    (λ t. cond-ind (leb (getD s i 0) most) _ _ (Ahead s i) (λ u. let h = leb-true (i + 1) (length s) t in omega arith) (λ u. tt))
+    (λ t. tt)
+
+real-ahead : (s : List ℕ) (i : ℕ) → Ahead s i (real s i)
+unfolding real
+real-ahead s i = cond-ind (leb (i + 8) (length s)) _ _ (Ahead s i) (λ t. let h = leb-true (i + 8) (length s) t in omega arith) (λ t. tt)
+
+pub value-ahead : (kind : ℕ) (s : List ℕ) (i : ℕ) → Ahead s i (value kind s i)
+unfolding value
+value-ahead kind s i =
+    cond-ind (leb kind 1) _ _ (Ahead s i) (λ t. byte-ahead _ _ s i)
+    (λ t. cond-ind (leb kind 3) _ _ (Ahead s i) (λ u. byte-ahead _ _ s i)
+    (λ u. cond-ind (eqb kind 4) _ _ (Ahead s i) (λ w. byte-ahead _ _ s i)
+    (λ w. cond-ind (eqb kind 5) _ _ (Ahead s i) (λ x. signed-ahead s i) (λ x. real-ahead s i))))
+
+-- ---- what was found suits the kind
+
+abbrev Most : ℕ → Read → Type 0
+Most most (Value v next) = v ≤ most
+Most most (Bad n p) = Unit {0}
+
+byte-most : (most bound : ℕ) (map : ℕ → ℕ) (s : List ℕ) (i : ℕ) → ((b : ℕ) → b ≤ most → map b ≤ bound) → Most bound (byteUpTo most map s i)
+unfolding byteUpTo
+byte-most most bound map s i f =
+    cond-ind (leb (i + 1) (length s)) _ _ (Most bound)
+    (λ t. cond-ind (leb (getD s i 0) most) _ _ (Most bound) (λ u. f (getD s i 0) (leb-true _ _ u)) (λ u. tt))
+    (λ t. tt)
+
+abbrev SuitsRead : ℕ → Read → Type 0
+SuitsRead kind (Value v next) = Suits kind v
+SuitsRead kind (Bad n p) = Unit {0}
+
+most-suits : (kind : ℕ) (r : Read) → Most (mostOf kind) r → SuitsRead kind r
+most-suits kind (Value v next) m = λ h. m
+most-suits kind (Bad n p) m = tt
+
+wide-suits : (kind : ℕ) (r : Read) → 4 < kind → SuitsRead kind r
+wide-suits kind (Value v next) l = λ h. absurd (omega arith)
+wide-suits kind (Bad n p) l = tt
+
+value-suits-read : (kind : ℕ) (s : List ℕ) (i : ℕ) → SuitsRead kind (value kind s i)
+unfolding value mostOf
+value-suits-read kind s i =
+    cond-ind (leb kind 1) _ _ (SuitsRead kind)
+    (λ t. most-suits kind (byteUpTo 8 mapped s i) (rw t (byte-most 8 8 mapped s i mapped-most)))
+    (λ t. cond-ind (leb kind 3) _ _ (SuitsRead kind)
+    (λ u. most-suits kind (byteUpTo 1 (λ b. b) s i) (rw (t, u) (byte-most 1 1 (λ b. b) s i (λ b h. h))))
+    (λ u. cond-ind (eqb kind 4) _ _ (SuitsRead kind)
+    (λ w. most-suits kind (byteUpTo 255 (λ b. b) s i) (rw (t, u) (byte-most 255 255 (λ b. b) s i (λ b h. h))))
+    (λ w.
+    let g : 3 < kind = leb-false kind 3 u in
+    let n : kind ≡ 4 → ⊥ = eqb-false kind 4 w in
+    wide-suits kind (cond (eqb kind 5) (signed s i) (real s i)) (omega arith))))
+
+pub value-suits : (kind : ℕ) (s : List ℕ) (i : ℕ) {r : Read} → r ≡ value kind s i → {v j : ℕ} → r ≡ Value v j → Suits kind v
+value-suits kind s i e d = subst (SuitsRead kind) (sym e ∙ d) (value-suits-read kind s i)
+
+pub value-next : (kind : ℕ) (s : List ℕ) (i : ℕ) {r : Read} → r ≡ value kind s i → {v j : ℕ} → r ≡ Value v j → (i < j) × (j ≤ length s)
+value-next kind s i e d = subst (Ahead s i) (sym e ∙ d) (value-ahead kind s i)
+
+pub ruleset number-laws = (number-value, number-short, number-large, unsigned-is, signed-is)
+
+pub ruleset value-laws = (value-nine, value-two, value-byte, value-integer, value-real)
+
+pub ruleset byte-laws = (byte-none, byte-found, nine-found, byte-over)
+
+pub ruleset real-laws = (real-found, real-none, real-inside)

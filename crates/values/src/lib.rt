@@ -1,0 +1,103 @@
+// Values of signals, read from section bytes: one reader for each kind.
+use numbers::fixed::read_f64_le;
+use numbers::leb128::Leb;
+use slices::Field;
+use slices::field_at;
+use states::std_logic;
+ghost use mathlib.Core.Path.{_≡_};
+ghost use Rattle.states.specs.Letters.{mapped};
+ghost use Rattle.values.specs.Value.{number, unsigned, signed, byteUpTo, real, value};
+
+// What was read and the place after it, or a refusal's number and place.
+pub enum Read {
+    Value(u64, usize),
+    Bad(u64, usize),
+}
+
+fn wide(x: u8) -> u64
+    ensures { λ r. ⌜ r ≡ x ⌝ }
+{
+    x as u64
+}
+
+// A number that was looked for at `at`.
+fn number(at: usize, found: Leb) -> Read
+    ensures { λ r. ⌜ r ≡ number at found ⌝ }
+{
+    match found {
+        Leb::Value(v, next) => Read::Value(v, next),
+        Leb::Short => Read::Bad(7, at),
+        Leb::Large => Read::Bad(12, at),
+    }
+}
+
+pub fn read_unsigned(s: &[u8], at: usize) -> Read
+    ensures { λ r. ⌜ r ≡ unsigned (now (s .entry)) at ⌝ }
+{
+    number(at, numbers::leb128::unsigned(s, at))
+}
+
+// A signed number, as its 64 bits.
+pub fn read_signed(s: &[u8], at: usize) -> Read
+    ensures { λ r. ⌜ r ≡ signed (now (s .entry)) at ⌝ }
+{
+    number(at, numbers::leb128::signed(s, at))
+}
+
+// A byte, at most `most`.
+pub fn read_byte(s: &[u8], at: usize, most: u8) -> Read
+    ensures { λ r. ⌜ r ≡ byteUpTo most (λ b. b) (now (s .entry)) at ⌝ }
+{
+    if s.len() <= at {
+        return Read::Bad(7, at);
+    }
+    let b = s[at];
+    if b <= most {
+        Read::Value(wide(b), at + 1)
+    } else {
+        Read::Bad(14, at)
+    }
+}
+
+// A nine-state byte, in the crate's order.
+pub fn read_nine_state(s: &[u8], at: usize) -> Read
+    ensures { λ r. ⌜ r ≡ byteUpTo 8 mapped (now (s .entry)) at ⌝ }
+{
+    if s.len() <= at {
+        return Read::Bad(7, at);
+    }
+    let b = s[at];
+    if b <= 8 {
+        Read::Value(wide(std_logic(b)), at + 1)
+    } else {
+        Read::Bad(14, at)
+    }
+}
+
+// The bits of a real.
+pub fn read_real(s: &[u8], at: usize) -> Read
+    ensures { λ r. ⌜ r ≡ real (now (s .entry)) at ⌝ }
+{
+    match field_at(s, at, 8) {
+        Field::Next(next) => Read::Value(read_f64_le(s, at), next),
+        Field::Short => Read::Bad(7, at),
+    }
+}
+
+pub fn read_value(kind: u8, s: &[u8], at: usize) -> Read
+    ensures { λ r. ⌜ r ≡ value kind (now (s .entry)) at ⌝ }
+{
+    if kind <= 1 {
+        return read_nine_state(s, at);
+    }
+    if kind <= 3 {
+        return read_byte(s, at, 1);
+    }
+    if kind == 4 {
+        return read_byte(s, at, 255);
+    }
+    if kind == 5 {
+        return read_signed(s, at);
+    }
+    read_real(s, at)
+}
