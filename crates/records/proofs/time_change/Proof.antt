@@ -1,0 +1,31 @@
+-- `records::time_change` meets its contract: each need follows from `time-laws`. Assumes nothing.
+use Rattle.records.specs.Out.Code.{time-laws}
+use borrow.Author.Needs.{needs}
+use Rattle.records.proofs.time_change.Statement.{statement}
+use Rattle.records.proofs.time_change.Tie as tie
+
+room-for-requires : tie.Need-room-for-requires
+room-for-requires c κs = search (time-laws, needs)
+
+returns : tie.Need-returns
+returns c = search (time-laws, needs)
+
+append-event-requires : tie.Need-append-event-requires
+append-event-requires c κs = search (time-laws, needs)
+
+add-t6 : tie.Need-add-t6
+add-t6 c = search (time-laws, needs)
+
+add-t11 : tie.Need-add-t11
+add-t11 c = search (time-laws, needs)
+
+same-length : tie.Need-same-length
+same-length c = search (time-laws, needs)
+
+returns-2 : tie.Need-returns-2
+returns-2 c = search (time-laws, needs)
+
+pub time-change-spec : {M : Type 1} → statement M
+time-change-spec =
+    tie.close
+    (tie.spec room-for-requires returns append-event-requires add-t6 add-t11 same-length returns-2)

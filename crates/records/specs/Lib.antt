@@ -1,0 +1,3 @@
+pub mod Event
+pub mod Out
+pub mod Stream

@@ -1,0 +1,84 @@
+-- `tables::check_names` meets its contract: each need follows from `names-laws`. Assumes nothing.
+use Prim.Native.Nat.{_-_}
+use lib.ListN.{length}
+use borrow.Author.Needs.{needs}
+use Rattle.tables.specs.Checks.Loops.{Lowest, names-laws}
+use Rattle.tables.proofs.check_names.Statement.{statement}
+use Rattle.tables.proofs.check_names.Tie as tie
+
+abbrev Inv-loop : tie.InvT-loop
+Inv-loop kinds refs vecs mins maxs states vec-refs best₀ v₀ best v = Lowest kinds refs vecs mins maxs states vec-refs v best
+
+abbrev μ-loop : tie.MeasureT-loop
+μ-loop kinds refs vecs mins maxs states vec-refs best₀ v₀ best v = length mins - v
+
+add-best : tie.Need-add-best Inv-loop μ-loop
+add-best c = search (names-laws, needs)
+
+loop-holds : tie.Need-loop-holds Inv-loop μ-loop
+loop-holds c = search (names-laws, needs)
+
+cast-stranger : tie.Need-cast-stranger Inv-loop μ-loop
+cast-stranger c = search (names-laws, needs)
+
+add-stranger : tie.Need-add-stranger Inv-loop μ-loop
+add-stranger c = search (names-laws, needs)
+
+mul-widen : tie.Need-mul-widen Inv-loop μ-loop
+mul-widen c = search (names-laws, needs)
+
+shared-slice-read-widen : tie.Need-shared-slice-read-widen Inv-loop μ-loop
+shared-slice-read-widen c = search (names-laws, needs)
+
+widen-requires : tie.Need-widen-requires Inv-loop μ-loop
+widen-requires c κs = search (names-laws, needs)
+
+mul-widen-2 : tie.Need-mul-widen-2 Inv-loop μ-loop
+mul-widen-2 c = search (names-laws, needs)
+
+shared-slice-read-widen-2 : tie.Need-shared-slice-read-widen-2 Inv-loop μ-loop
+shared-slice-read-widen-2 c = search (names-laws, needs)
+
+widen-requires-2 : tie.Need-widen-requires-2 Inv-loop μ-loop
+widen-requires-2 c κs = search (names-laws, needs)
+
+stranger-requires : tie.Need-stranger-requires Inv-loop μ-loop
+stranger-requires c κs = search (names-laws, needs)
+
+add-v : tie.Need-add-v Inv-loop μ-loop
+add-v c = search (names-laws, needs)
+
+loop-less : tie.Need-loop-less Inv-loop μ-loop
+loop-less c = search (names-laws, needs)
+
+loop-again : tie.Need-loop-again Inv-loop μ-loop
+loop-again c = search (names-laws, needs)
+
+returns : tie.Need-returns Inv-loop μ-loop
+returns c = search (names-laws, needs)
+
+returns-2 : tie.Need-returns-2 Inv-loop μ-loop
+returns-2 c = search (names-laws, needs)
+
+pub check-names-spec : {M : Type 1} → statement M
+check-names-spec =
+    tie.close
+    (tie.spec
+    Inv-loop
+    μ-loop
+    add-best
+    loop-holds
+    cast-stranger
+    add-stranger
+    mul-widen
+    shared-slice-read-widen
+    widen-requires
+    mul-widen-2
+    shared-slice-read-widen-2
+    widen-requires-2
+    stranger-requires
+    add-v
+    loop-less
+    loop-again
+    returns
+    returns-2)

@@ -1,0 +1,5 @@
+pub mod Info
+pub mod Numbers
+pub mod Full
+pub mod Changes
+pub mod Stands
