@@ -1,0 +1,2 @@
+//! Stand-in for the crate thiserror: its derive.
+pub use standin_derive::Error;

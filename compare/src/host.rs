@@ -1,0 +1,325 @@
+//! The port's entries across the C boundary. Each call lends copies between guards, outputs and working buffers full of
+//! garbage, and is checked for what the promise says of lent memory: inputs and guards untouched, outputs zero past
+//! the reported bytes (all of them on a refusal), working buffers zero.
+use crate::plain::Answer;
+
+pub struct Answered {
+    pub answer: Answer,
+    pub events: Vec<u8>,
+    pub values: Vec<u8>,
+}
+
+#[derive(Default)]
+pub struct Host {
+    /// Calls made.
+    pub calls: u64,
+}
+
+#[cfg(not(port))]
+impl Host {
+    pub const LINKED: bool = false;
+    pub const NAME: &'static str = "no port";
+    pub const LENT: bool = false;
+
+    /// None: the port isn't linked in.
+    pub fn call(&mut self, _: &crate::cases::Case) -> Option<Result<Answered, String>> {
+        None
+    }
+}
+
+#[cfg(port)]
+mod linked {
+    use super::{Answered, Host};
+    use crate::cases::{Case, Entry};
+    use crate::plain::Answer;
+
+    #[cfg(fake)]
+    extern crate fake;
+
+    /// A vector record as the host lends it: twelve bytes of numbers and one of state, on a stride of sixteen.
+    #[repr(C)]
+    #[derive(Clone, Copy)]
+    #[allow(dead_code)]
+    pub struct Vector {
+        min: u32,
+        max: u32,
+        state: u8,
+        reference: u32,
+    }
+
+    #[rustfmt::skip]
+    extern "C" {
+        fn doorquill_read_sections(
+            kinds: *const u8, kinds_len: usize, refs: *const u32, refs_len: usize, vecs: *const u32, vecs_len: usize,
+            mins: *const u32, mins_len: usize, maxs: *const u32, maxs_len: usize,
+            states: *const u8, states_len: usize, vec_refs: *const u32, vec_refs_len: usize,
+            big_endian: bool, input: *const u8, input_len: usize,
+            events: *mut u8, events_len: usize, values: *mut u8, values_len: usize,
+            room: *mut u8, room_len: usize, list: *mut u32, list_len: usize,
+        ) -> Answer;
+        fn doorquill_read_changes(
+            kinds: *const u8, kinds_len: usize, refs: *const u32, refs_len: usize, vecs: *const u32, vecs_len: usize,
+            mins: *const u32, mins_len: usize, maxs: *const u32, maxs_len: usize,
+            states: *const u8, states_len: usize, vec_refs: *const u32, vec_refs_len: usize,
+            input: *const u8, input_len: usize,
+            events: *mut u8, events_len: usize, values: *mut u8, values_len: usize,
+            room: *mut u8, room_len: usize, list: *mut u32, list_len: usize,
+        ) -> Answer;
+        fn doorquill_time_rule(
+            events: *const u8, events_len: usize, values: *const u8, values_len: usize, kept: *mut u8, kept_len: usize,
+        ) -> Answer;
+        #[cfg(lent)]
+        fn doorquill_read_sections_lent(
+            kinds: *const u8, kinds_len: usize, refs: *const u32, refs_len: usize, vecs: *const u32, vecs_len: usize,
+            vectors: *const Vector, vectors_len: usize, flat: *mut u32, flat_len: usize,
+            big_endian: bool, input: *const u8, input_len: usize,
+            events: *mut u8, events_len: usize, values: *mut u8, values_len: usize,
+            room: *mut u8, room_len: usize, list: *mut u32, list_len: usize,
+        ) -> Answer;
+    }
+
+    /// The tables as the three table entries take them.
+    pub struct Tables<'a> {
+        pub kinds: &'a [u8],
+        pub refs: &'a [u32],
+        pub vecs: &'a [u32],
+        pub mins: &'a [u32],
+        pub maxs: &'a [u32],
+        pub states: &'a [u8],
+        pub vec_refs: &'a [u32],
+    }
+
+    pub struct Out<'a> {
+        pub events: &'a mut [u8],
+        pub values: &'a mut [u8],
+        pub room: &'a mut [u8],
+        pub list: &'a mut [u32],
+    }
+
+    // The four functions below hand on slices as pointers and lengths and nothing else: the port reads and writes within them only.
+    #[rustfmt::skip]
+    pub fn read_sections(t: &Tables, big_endian: bool, input: &[u8], o: Out) -> Answer {
+        unsafe {
+            doorquill_read_sections(
+                t.kinds.as_ptr(), t.kinds.len(), t.refs.as_ptr(), t.refs.len(), t.vecs.as_ptr(), t.vecs.len(),
+                t.mins.as_ptr(), t.mins.len(), t.maxs.as_ptr(), t.maxs.len(),
+                t.states.as_ptr(), t.states.len(), t.vec_refs.as_ptr(), t.vec_refs.len(),
+                big_endian, input.as_ptr(), input.len(),
+                o.events.as_mut_ptr(), o.events.len(), o.values.as_mut_ptr(), o.values.len(),
+                o.room.as_mut_ptr(), o.room.len(), o.list.as_mut_ptr(), o.list.len(),
+            )
+        }
+    }
+
+    #[rustfmt::skip]
+    pub fn read_changes(t: &Tables, input: &[u8], o: Out) -> Answer {
+        unsafe {
+            doorquill_read_changes(
+                t.kinds.as_ptr(), t.kinds.len(), t.refs.as_ptr(), t.refs.len(), t.vecs.as_ptr(), t.vecs.len(),
+                t.mins.as_ptr(), t.mins.len(), t.maxs.as_ptr(), t.maxs.len(),
+                t.states.as_ptr(), t.states.len(), t.vec_refs.as_ptr(), t.vec_refs.len(),
+                input.as_ptr(), input.len(),
+                o.events.as_mut_ptr(), o.events.len(), o.values.as_mut_ptr(), o.values.len(),
+                o.room.as_mut_ptr(), o.room.len(), o.list.as_mut_ptr(), o.list.len(),
+            )
+        }
+    }
+
+    #[cfg(lent)]
+    #[rustfmt::skip]
+    pub fn read_sections_lent(t: &Tables, vectors: &[Vector], flat: &mut [u32], big_endian: bool, input: &[u8], o: Out) -> Answer {
+        unsafe {
+            doorquill_read_sections_lent(
+                t.kinds.as_ptr(), t.kinds.len(), t.refs.as_ptr(), t.refs.len(), t.vecs.as_ptr(), t.vecs.len(),
+                vectors.as_ptr(), vectors.len(), flat.as_mut_ptr(), flat.len(),
+                big_endian, input.as_ptr(), input.len(),
+                o.events.as_mut_ptr(), o.events.len(), o.values.as_mut_ptr(), o.values.len(),
+                o.room.as_mut_ptr(), o.room.len(), o.list.as_mut_ptr(), o.list.len(),
+            )
+        }
+    }
+
+    #[cfg(not(lent))]
+    pub fn read_sections_lent(_: &Tables, _: &[Vector], _: &mut [u32], _: bool, _: &[u8], _: Out) -> Answer {
+        unreachable!("not in the archive")
+    }
+
+    pub fn time_rule(events: &[u8], values: &[u8], kept: &mut [u8]) -> Answer {
+        unsafe { doorquill_time_rule(events.as_ptr(), events.len(), values.as_ptr(), values.len(), kept.as_mut_ptr(), kept.len()) }
+    }
+
+    pub trait Word: Copy + Default + PartialEq {
+        fn of(x: u64) -> Self;
+    }
+    impl Word for u8 {
+        fn of(x: u64) -> u8 {
+            (x >> 32) as u8
+        }
+    }
+    impl Word for u32 {
+        fn of(x: u64) -> u32 {
+            (x >> 32) as u32
+        }
+    }
+
+    const GUARD: usize = 64;
+    /// Longer buffers are lent zeroed but for their ends.
+    const LONG: usize = 1 << 22;
+
+    /// A buffer between two guards. Byte buffers begin at any alignment.
+    pub struct Lent<T> {
+        all: Vec<T>,
+        from: usize,
+        len: usize,
+    }
+
+    fn guard<T: Word>(i: usize) -> T {
+        T::of((i as u64 + 1).wrapping_mul(0x9e37_79b9_7f4a_7c15))
+    }
+
+    impl<T: Word> Lent<T> {
+        pub fn garbage(len: usize) -> Self {
+            let from = GUARD + len % 8;
+            let mut all = vec![T::default(); from + len + GUARD];
+            let end = all.len();
+            if len <= LONG {
+                all.iter_mut().enumerate().for_each(|(i, x)| *x = guard(i));
+            } else {
+                for i in (0..2 * GUARD).chain(end - 2 * GUARD..end) {
+                    all[i] = guard(i);
+                }
+            }
+            Lent { all, from, len }
+        }
+        pub fn copy(from: &[T]) -> Self {
+            let mut lent = Self::garbage(from.len());
+            lent.inside().copy_from_slice(from);
+            lent
+        }
+        pub fn inside(&mut self) -> &mut [T] {
+            &mut self.all[self.from..self.from + self.len]
+        }
+        pub fn see(&self) -> &[T] {
+            &self.all[self.from..self.from + self.len]
+        }
+        /// What memory holds now, whatever the compiler takes a callee to leave alone.
+        fn now(&self, i: usize) -> T {
+            unsafe { std::ptr::read_volatile(&self.all[i]) }
+        }
+        fn guarded(&self) -> bool {
+            (0..self.from).chain(self.from + self.len..self.all.len()).all(|i| self.now(i) == guard(i))
+        }
+        fn check_input(&self, name: &str, was: &[T]) -> Result<(), String> {
+            let same =
+                if was.len() <= LONG { was.iter().enumerate().all(|(i, x)| self.now(self.from + i) == *x) } else { self.see() == was };
+            if !self.guarded() || !same {
+                return Err(format!("{}: an input was written", name));
+            }
+            Ok(())
+        }
+        /// The reported part, where all else is as promised.
+        fn check_output(&self, name: &str, reported: u64) -> Result<Vec<T>, String> {
+            if !self.guarded() {
+                return Err(format!("{}: written outside", name));
+            }
+            let reported = reported as usize;
+            if reported > self.see().len() {
+                return Err(format!("{}: {} reported, {} lent", name, reported, self.see().len()));
+            }
+            let (head, tail) = self.see().split_at(reported);
+            let zeros = [T::default(); 4096];
+            for (i, part) in tail.chunks(zeros.len()).enumerate() {
+                if part != &zeros[..part.len()] {
+                    let at = part.iter().position(|x| *x != T::default()).unwrap_or(0);
+                    return Err(format!("{}: not zero at {}", name, reported + i * zeros.len() + at));
+                }
+            }
+            Ok(head.to_vec())
+        }
+    }
+
+    impl Host {
+        pub const LINKED: bool = true;
+        pub const NAME: &'static str = if cfg!(fake) { "FAKE port (the plain reading again)" } else { "port" };
+        /// The archive has the entry over lent vector records too.
+        pub const LENT: bool = cfg!(lent);
+
+        /// The port's answer to a case, or what it did to lent memory that it must not.
+        pub fn call(&mut self, case: &Case) -> Option<Result<Answered, String>> {
+            if case.entry == Entry::Lent && !Self::LENT {
+                return None;
+            }
+            self.calls += 1;
+            Some(if case.entry == Entry::Events { time_rule_checked(case) } else { reading_checked(case) })
+        }
+    }
+
+    fn time_rule_checked(case: &Case) -> Result<Answered, String> {
+        let mut input = Lent::copy(&case.input);
+        let mut values = Lent::copy(&case.values);
+        let mut kept = Lent::<u8>::garbage(case.rooms.events);
+        let answer = time_rule(input.inside(), values.inside(), kept.inside());
+        let checked = || {
+            input.check_input("events", &case.input)?;
+            values.check_input("values", &case.values)?;
+            kept.check_output("kept", answer.events)
+        };
+        let events = checked().map_err(|e| format!("{}; {:?}", e, answer))?;
+        Ok(Answered { answer, events, values: vec![] })
+    }
+
+    fn reading_checked(case: &Case) -> Result<Answered, String> {
+        let t = &case.tables;
+        let r = &case.rooms;
+        let (kinds, states, input) = (Lent::copy(&t.kinds), Lent::copy(&t.states), Lent::copy(&case.input));
+        let (refs, vecs) = (Lent::copy(&t.refs), Lent::copy(&t.vecs));
+        let (mins, maxs, vec_refs) = (Lent::copy(&t.mins), Lent::copy(&t.maxs), Lent::copy(&t.vec_refs));
+        let (mut events, mut values, mut room) =
+            (Lent::<u8>::garbage(r.events), Lent::<u8>::garbage(r.values), Lent::<u8>::garbage(r.room));
+        let (mut list, mut flat) = (Lent::<u32>::garbage(r.list), Lent::<u32>::garbage(r.flat));
+        let tables = Tables {
+            kinds: kinds.see(),
+            refs: refs.see(),
+            vecs: vecs.see(),
+            mins: mins.see(),
+            maxs: maxs.see(),
+            states: states.see(),
+            vec_refs: vec_refs.see(),
+        };
+        // The three bytes after a state belong to no field: garbage.
+        let lends = case.entry == Entry::Lent;
+        let state = |v: usize| u32::from_le_bytes([t.states[v], 0xa5, 0x5a, v as u8]);
+        let count = if lends { t.mins.len() } else { 0 };
+        let numbers: Vec<u32> = (0..count).flat_map(|v| [t.mins[v], t.maxs[v], state(v), t.vec_refs[v]]).collect();
+        let records = Lent::copy(&numbers);
+        let vectors = unsafe { std::slice::from_raw_parts(records.see().as_ptr() as *const Vector, count) };
+        let out = Out { events: events.inside(), values: values.inside(), room: room.inside(), list: list.inside() };
+        let answer = match case.entry {
+            Entry::Sections => read_sections(&tables, case.big, input.see(), out),
+            Entry::Changes => read_changes(&tables, input.see(), out),
+            _ => read_sections_lent(&tables, vectors, flat.inside(), case.big, input.see(), out),
+        };
+        let checked = || {
+            kinds.check_input("kinds", &t.kinds)?;
+            refs.check_input("refs", &t.refs)?;
+            vecs.check_input("vecs", &t.vecs)?;
+            mins.check_input("mins", &t.mins)?;
+            maxs.check_input("maxs", &t.maxs)?;
+            states.check_input("states", &t.states)?;
+            vec_refs.check_input("vec_refs", &t.vec_refs)?;
+            input.check_input("input", &case.input)?;
+            records.check_input("vectors", &numbers)?;
+            room.check_output("room", 0)?;
+            list.check_output("list", 0)?;
+            if lends {
+                flat.check_output("flat", 0)?;
+            }
+            Ok((events.check_output("events", answer.events)?, values.check_output("values", answer.values)?))
+        };
+        let (events, values) = checked().map_err(|e: String| format!("{}; {:?}", e, answer))?;
+        Ok(Answered { answer, events, values })
+    }
+}
+
+#[cfg(port)]
+pub use linked::{read_sections, Out, Tables};

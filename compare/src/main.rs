@@ -1,0 +1,102 @@
+//! The port of the GHW section reader beside the crate's own Rust and beside a plain reading of document 01.
+mod bench;
+mod cases;
+mod gen;
+mod host;
+mod judge;
+mod plain;
+mod readings;
+mod runs;
+mod sample;
+
+use cases::Entry;
+use runs::Session;
+use std::process::exit;
+
+const HELP: &str = "compare run [--seed S] [--sections N] [--changes N] [--events N] [--no-exhaustive] [--examples]
+    the plain reading, the crate and (where it is linked in) the port, on generated inputs; stops at the first difference
+compare self ..           the same, but says that it was run without the port
+compare readings          the inputs with chosen answers
+compare samples DIR       real files: NAME.ghw, NAME.listing-in, NAME.listing-out
+compare limits            the largest buffers and one past them (up to 5 GB of memory)
+compare case FILE         what each side says of the cases of a file
+compare sample FILE       writes the fixed list; compare replay FILE puts it to every side again
+compare bench [ROUNDS]    times";
+
+fn option(args: &[String], name: &str, otherwise: u64) -> u64 {
+    match args.iter().position(|a| a == name) {
+        None => otherwise,
+        Some(i) => args.get(i + 1).and_then(|n| n.parse().ok()).unwrap_or_else(|| {
+            eprintln!("{} takes a number", name);
+            exit(2)
+        }),
+    }
+}
+
+fn run(args: &[String]) -> bool {
+    let seed = option(args, "--seed", 1);
+    let mut s = Session::default();
+    let started = std::time::Instant::now();
+    let whole = || -> runs::Go {
+        if !args.iter().any(|a| a == "--no-exhaustive") {
+            runs::exhaustive(&mut s)?;
+            runs::long(&mut s)?;
+            println!(
+                "short inputs, exhaustively, and long ones: sections {}, changes {}, events {}",
+                s.total(Entry::Sections),
+                s.total(Entry::Changes),
+                s.total(Entry::Events)
+            );
+        }
+        for (entry, name, count) in
+            [(Entry::Sections, "--sections", 100_000), (Entry::Changes, "--changes", 50_000), (Entry::Events, "--events", 50_000)]
+        {
+            runs::random_runs(&mut s, seed, entry, option(args, name, count))?;
+        }
+        Ok(())
+    }();
+    s.report(args.iter().any(|a| a == "--examples"));
+    let sides = if host::Host::LINKED { format!("plain, crate and {}", host::Host::NAME) } else { "plain and crate".to_string() };
+    println!(
+        "seed {}, {} seconds, {}: {}",
+        seed,
+        started.elapsed().as_secs(),
+        sides,
+        if whole.is_ok() { "no difference" } else { "DIFFERENCE" }
+    );
+    whole.is_ok()
+}
+
+fn limits() -> bool {
+    let mut s = Session::default();
+    let good = runs::limits(&mut s).is_ok();
+    s.report(false);
+    println!("{}", if good { "no difference" } else { "DIFFERENCE" });
+    good
+}
+
+fn main() {
+    calls::catch_panics();
+    let args: Vec<String> = std::env::args().skip(1).collect();
+    let file = || {
+        args.get(1).cloned().unwrap_or_else(|| {
+            eprintln!("{}", HELP);
+            exit(2)
+        })
+    };
+    let good = match args.first().map(String::as_str) {
+        Some("run") | Some("self") => run(&args),
+        Some("limits") => limits(),
+        Some("readings") => readings::readings(),
+        Some("samples") => readings::samples(&file()),
+        Some("case") => readings::cases(&file()),
+        Some("sample") => sample::write(&file()),
+        Some("replay") => sample::replay(&file()),
+        Some("bench") => bench::bench(args.get(1).and_then(|n| n.parse().ok()).unwrap_or(9)),
+        _ => {
+            eprintln!("{}", HELP);
+            exit(2)
+        }
+    };
+    exit(i32::from(!good));
+}
