@@ -12,8 +12,9 @@ use Rattle.records.specs.declared.Next.{Next}
 use Rattle.records.specs.declared.Next.the-variants.{Event, End, Bad}
 use Rattle.records.specs.Stream.{nextEvent}
 use Rattle.encoder.specs.declared.Clock.{Clock}
-pub mod Laws
+pub mod Promise
 pub mod Code
+pub mod Keeping
 
 -- "The first time is kept; each later one is compared with the last kept": a larger one is kept. "Value and real events are dropped while skipping."
 unfoldable pub keeps : Clock → Record → Bool

@@ -8,7 +8,7 @@ ghost use Prim.Native.Nat.{_≤_};
 ghost use lib.ListN.{length};
 ghost use mathlib.Core.Bool.{cond};
 ghost use Rattle.encoder.specs.Rule.{keeps, ticks, times};
-ghost use Rattle.encoder.specs.Rule.Laws.{Applies};
+ghost use Rattle.encoder.specs.Rule.Promise.{Applies};
 ghost use Rattle.encoder.specs.Rule.Code.{On, Fit, Turns, Turned};
 
 // The last kept time, once there is one, and whether events are skipped.

@@ -14,6 +14,7 @@ use Rattle.states.specs.Letters.{mapped}
 use Rattle.values.specs.declared.Read.{Read}
 use Rattle.values.specs.declared.Read.the-variants.{Value, Bad}
 pub mod Laws
+pub mod Reads
 
 -- what follows from what was read
 unfoldable pub onRead : {R : Type 0} → Read → (ℕ → ℕ → R) → (ℕ → ℕ → R) → R

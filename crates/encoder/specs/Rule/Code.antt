@@ -26,7 +26,7 @@ use Rattle.encoder.specs.declared.Turn.the-variants.{More, Over}
 use Rattle.encoder.specs.declared.Applied.{Applied}
 use Rattle.encoder.specs.declared.Applied.the-variants.{Done, Refused}
 use Rattle.encoder.specs.Rule.{keeps, kept, ticks, times, Kept, one, rule, timeRule}
-use Rattle.encoder.specs.Rule.Laws.{Applies}
+use Rattle.encoder.specs.Rule.Promise.{Applies}
 
 -- ---- how far it has come
 
