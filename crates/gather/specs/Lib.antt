@@ -1,0 +1,7 @@
+pub mod Run
+pub mod Memory
+pub mod Follows
+pub mod Makes
+pub mod Writes
+pub mod Ends
+pub mod Begin

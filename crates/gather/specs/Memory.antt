@@ -1,0 +1,52 @@
+-- The lent memory, and the state of the gatherer and of the rooms that it holds.
+-- Assumes nothing.
+use mathlib.Core.Path.{_≡_}
+use Prim.Native.Nat.{ℕ, _<_, _≤_}
+use mathlib.Core.List.{List}
+use lib.ListN.{getD}
+use Rattle.tables.specs.Lists.{Lists}
+use Rattle.tables.specs.Layout.{Layout, layoutOf, totalBytes}
+use Rattle.tables.specs.Good.{Sized, Ranged, Signals, Named}
+use Rattle.rules.specs.Gather.{State}
+use Rattle.records.specs.Out.{Rooms, Out}
+use Rattle.records.specs.Out.Laws.{EventsRoom, ValuesRoom, Written}
+use Rattle.vecbuffer.specs.Stands.{Stands}
+use Rattle.gather.specs.declared.Gathered.{Gathered}
+pub mod Laws
+
+-- the working room and its numbers, the event room and the value room
+pub record Mem : Type 0 where
+  pub room : List ℕ
+  pub list : List ℕ
+  pub events : List ℕ
+  pub values : List ℕ
+
+abbrev pub memOf : (room list events values : List ℕ) → Mem
+memOf room list events values = record { room = room; list = list; events = events; values = values }
+
+-- what tables that passed their checks give
+pub record Tabled (t : Lists) : Type 0 where
+  pub sized : Sized t
+  pub ranged : Ranged t
+  pub signals : Signals t
+  pub named : Named t
+
+-- the room has bytes, and the working buffers have zeros past what is needed of them
+pub record Clean (t : Layout) (room nums : List ℕ) : Type 0 where
+  pub byte : (i : ℕ) → getD room i 0 < 256
+  pub room-past : (i : ℕ) → totalBytes t ≤ i → getD room i 0 ≡ 0
+  pub list-past : (i : ℕ) → t .count ≤ i → getD nums i 0 ≡ 0
+
+-- outside a step's end i is 0; there the first i of the vectors that were listed are done
+pub record HoldsAt (t : Lists) (r : Rooms) (m : Mem) (i : ℕ) (c : Gathered) (g : State) (o : Out) : Type 0 where
+  pub stands : Stands (layoutOf t) (m .room) (m .list) i (c .listed) g
+  pub clean : Clean (layoutOf t) (m .room) (m .list)
+  pub written : Written r (m .events) (m .values) (c .counts) o
+
+abbrev pub Holds : Lists → Rooms → Mem → Gathered → State → Out → Type 0
+Holds t r m c g o = HoldsAt t r m 0 c g o
+
+-- what is used of the rooms lies within them
+pub record Roomy (events values : List ℕ) (c : Gathered) : Type 0 where
+  pub in-events : EventsRoom events (c .counts)
+  pub in-values : ValuesRoom values (c .counts)
