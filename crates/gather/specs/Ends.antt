@@ -98,7 +98,6 @@ module _ {x : VecInfo} {room₁ room : List ℕ} (e : room₁ ≡ withMark (x .f
           seen = q .seen;
         }
 
-
   module _ {events values : List ℕ} {c : Gathered} where
     ended-from : {room' events' values' : List ℕ} {w : Wrote} → Shown x room₁ events values c room' events' values' w hasMarks → Ended x room events values c room' events' values' w
     unfolding endedState unlisted shownEvents
@@ -291,11 +290,12 @@ module _ {t : Lists} {m₀ : Mem} {c₀ : Gathered} {i : ℕ} {room list events 
       record {
         follows = λ r g₀ o₀ h.
             let x = k .goes r g₀ o₀ h in
-            let nil = none-listed (x .holds .stands .listed) none-left in
-            (x .output,
-            acted-end t r g₀ o₀ ∙ (sym (x .events) ∙ over-events t r (x .state) (x .output) nil),
-            holds-as (after t r g₀ stepEnd) (record { stands = stands-over (x .holds .stands) none-left; clean = x .holds .clean; written = rw z (x .holds .written) })
-            (λ w. sym (over-vecs (x .state) nil w) ∙ (x .vecs w ∙ after-end t r g₀ w)) nil);
+            let nil = none-listed (x .holds .stands .listed) none-left in (
+              x .output,
+              acted-end t r g₀ o₀ ∙ (sym (x .events) ∙ over-events t r (x .state) (x .output) nil),
+              holds-as (after t r g₀ stepEnd) (record { stands = stands-over (x .holds .stands) none-left; clean = x .holds .clean; written = rw z (x .holds .written) })
+                  (λ w. sym (over-vecs (x .state) nil w) ∙ (x .vecs w ∙ after-end t r g₀ w)) nil,
+            );
       }
 
 -- ---- the loop

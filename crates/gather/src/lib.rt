@@ -54,7 +54,6 @@ pub enum Part {
     Out(u64, usize),
 }
 
-
 // A vector, looked up once: its index, where its bytes and the flags of all vectors lie, and its reference.
 struct VecInfo {
     v: usize,
@@ -81,13 +80,7 @@ pub fn time_change(events: &mut [u8], values: &[u8], c: Gathered, u: u64) -> Wro
 }
 
 // Makes an event of a vector and clears its marks.
-fn dispatch(
-    room: &mut [u8],
-    events: &mut [u8],
-    values: &mut [u8],
-    c: Gathered,
-    x: VecInfo,
-) -> Wrote
+fn dispatch(room: &mut [u8], events: &mut [u8], values: &mut [u8], c: Gathered, x: VecInfo) -> Wrote
     requires { ⌜ Shows (now room) (now events) (now values) c x ⌝ }
     ensures { λ r. ⌜ Shown x (now (room .entry)) (now (events .entry)) (now (values .entry)) c (now (room .exit)) (now (events .exit)) (now (values .exit)) r always ⌝ }
 {
@@ -125,13 +118,7 @@ fn rewrite(
 }
 
 // Rule (c): an event where the whole vector was written since the last one.
-fn complete(
-    room: &mut [u8],
-    events: &mut [u8],
-    values: &mut [u8],
-    c: Gathered,
-    x: VecInfo,
-) -> Wrote
+fn complete(room: &mut [u8], events: &mut [u8], values: &mut [u8], c: Gathered, x: VecInfo) -> Wrote
     requires { ⌜ Shows (now room) (now events) (now values) c x ⌝ }
     ensures { λ r. ⌜ Shown x (now (room .entry)) (now (events .entry)) (now (values .entry)) c (now (room .exit)) (now (events .exit)) (now (values .exit)) r (completes (x .info .width)) ⌝ }
 {
@@ -384,7 +371,16 @@ pub fn finish_time_step(
     let mut i: usize = 0;
     while i < c.listed {
         match end_listed(
-            mins, maxs, states, vec_refs, room, list, events, values, d, i,
+            mins,
+            maxs,
+            states,
+            vec_refs,
+            room,
+            list,
+            events,
+            values,
+            d,
+            i,
         ) {
             Wrote::Full => return Wrote::Full,
             Wrote::Done(e) => d = e,

@@ -122,8 +122,8 @@ module _ {x : VecInfo} {room events values : List ℕ} {c : Gathered} {m : Bool}
               makes = λ r g o h.
                   let d' : (room', values') ≡ taken (vecInfo t v .info) (vecInfo t v .flags) v (c .counts .values) room values = rw (s .is) at d in
                   let k =
-                      value-done (suc v) (stateOf (getD (t .states) v 0)) (getD (t .vecRefs) v 0) (packed (stateOf (getD (t .states) v 0)) (g .vecs v .vals)) (x .info .bytes) (long s h) events values (c .counts) events' values'
-                      (sym e ∙ not-false m z) (a ∙ rw (state s h, s .is)) (rw (← state-is t v (known s h)) (values-taken (h .stands) (s .known) values (c .counts .values) d' (h .clean .byte))) .comes r o (h .written) in
+                  value-done (suc v) (stateOf (getD (t .states) v 0)) (getD (t .vecRefs) v 0) (packed (stateOf (getD (t .states) v 0)) (g .vecs v .vals)) (x .info .bytes) (long s h) events values (c .counts) events' values'
+                  (sym e ∙ not-false m z) (a ∙ rw (state s h, s .is)) (rw (← state-is t v (known s h)) (values-taken (h .stands) (s .known) values (c .counts .values) d' (h .clean .byte))) .comes r o (h .written) in
                   (k .0, k .1, record { stands = stands-taken (h .stands) (s .known) values (c .counts .values) d'; clean = clean-taken (h .stands) (h .clean) (s .known) values (c .counts .values) d'; written = rw n (k .2) });
             };
       }

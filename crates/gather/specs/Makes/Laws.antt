@@ -90,8 +90,12 @@ module _ (t : Lists) where
       eventsOf t (map (of v) ((act early y (op.put x)) .0)) ≡ cond (clashes y x) (eventOf t v y ∷ []) [] ++ cond (early && all (stored (a .1) x .marks)) (eventOf t v (stored (a .1) x) ∷ []) []
   unfolding act eventsOf ofVector
   act-events v early y x =
-      rw (map-append (of v) ((fires (clashes y x) rewritten y) .0), events-append, events-fires v (clashes y x) rewritten y,
-      events-fires v (early && all (stored ((fires (clashes y x) rewritten y) .1) x .marks)) complete (stored ((fires (clashes y x) rewritten y) .1) x))
+      rw (
+        map-append (of v) ((fires (clashes y x) rewritten y) .0),
+        events-append,
+        events-fires v (clashes y x) rewritten y,
+        events-fires v (early && all (stored ((fires (clashes y x) rewritten y) .1) x .marks)) complete (stored ((fires (clashes y x) rewritten y) .1) x),
+      )
 
 -- a vector that stays
 pub with-self : (vecs : ℕ → Vec) (v w : ℕ) → vecs w ≡ with vecs v (vecs v) w
