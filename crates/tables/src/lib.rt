@@ -1,8 +1,8 @@
 // The signal and vector tables, and the checks that come before any reading.
 use states::States;
 ghost use mathlib.Core.Path.{_≡_};
-ghost use Prim.Native.Nat.{_+_, _≤_, _<_};
-ghost use lib.ListN.{length};
+ghost use Prim.Native.Nat.{_+_, _-_, _≤_, _<_};
+ghost use lib.ListN.{length, getD};
 ghost use Rattle.states.specs.Kind.{bytesRequired};
 ghost use Rattle.states.specs.declared.States.the-variants.{Two};
 ghost use Rattle.tables.specs.Lists.{lists};
@@ -240,6 +240,24 @@ fn stranger(vecs: &[u32], number: u32, min: usize, max: usize, best: usize) -> u
     best
 }
 
+// The same of the vector with the index `v`.
+fn stranger_in(
+    kinds: &[u8],
+    refs: &[u32],
+    vecs: &[u32],
+    mins: &[u32],
+    maxs: &[u32],
+    states: &[u8],
+    vec_refs: &[u32],
+    v: usize,
+    best: usize,
+) -> usize
+    requires { ⌜ Sized (lists (now kinds) (now refs) (now vecs) (now mins) (now maxs) (now states) (now «vec_refs»)) × Ranged (lists (now kinds) (now refs) (now vecs) (now mins) (now maxs) (now states) (now «vec_refs»)) × (v < length (now mins)) × (best ≤ length (now kinds) + 1) ⌝ }
+    ensures { λ r. ⌜ Stranger (now (vecs .entry)) (v + 1) (getD (now (mins .entry)) v 0) (getD (now (maxs .entry)) v 0) best r ⌝ }
+{
+    stranger(vecs, v as u32 + 1, widen(mins[v]), widen(maxs[v]), best)
+}
+
 // Check 5.
 fn check_names(
     kinds: &[u8],
@@ -253,10 +271,11 @@ fn check_names(
     requires { ⌜ Sized (lists (now kinds) (now refs) (now vecs) (now mins) (now maxs) (now states) (now «vec_refs»)) × Ranged (lists (now kinds) (now refs) (now vecs) (now mins) (now maxs) (now states) (now «vec_refs»)) ⌝ }
     ensures { λ r. ⌜ r ≡ check5 (lists (now (kinds .entry)) (now (refs .entry)) (now (vecs .entry)) (now (mins .entry)) (now (maxs .entry)) (now (states .entry)) (now («vec_refs» .entry))) ⌝ }
 {
-    let mut best: usize = kinds.len() + 1;
+    let end = kinds.len() + 1;
+    let mut best = end;
     let mut v: usize = 0;
     while v < mins.len() {
-        best = stranger(vecs, v as u32 + 1, widen(mins[v]), widen(maxs[v]), best);
+        best = stranger_in(kinds, refs, vecs, mins, maxs, states, vec_refs, v, best);
         v += 1;
     }
     if best <= kinds.len() {
@@ -265,12 +284,28 @@ fn check_names(
     Check::Passed
 }
 
+// How many ids a range has.
+pub fn width(min: u32, max: u32) -> usize
+    requires { ⌜ min ≤ max ⌝ }
+    ensures { λ r. ⌜ r ≡ max - min + 1 ⌝ }
+{
+    widen(max - min) + 1
+}
+
 // The bytes of a vector's values and marks.
-fn chunk_bytes(states: States, width: usize) -> usize
+pub fn chunk_bytes(states: States, width: usize) -> usize
     requires { ⌜ width ≤ 65535 ⌝ }
-    ensures { λ r. ⌜ r ≡ bytesRequired states width + bytesRequired Two width ⌝ }
+    ensures { λ r. ⌜ (r ≡ bytesRequired states width + bytesRequired Two width) × (r ≤ 40960) ⌝ }
 {
     states.bytes_required(width) + States::Two.bytes_required(width)
+}
+
+// The bytes of a flag for each of `v` vectors.
+fn flag_bytes(v: usize) -> usize
+    requires { ⌜ v ≤ 16383 ⌝ }
+    ensures { λ r. ⌜ (r ≡ bytesRequired Two v) × (r ≤ 2048) ⌝ }
+{
+    States::Two.bytes_required(v)
 }
 
 // The bytes of working room that the tables need.
@@ -289,10 +324,10 @@ pub fn total_bytes(
     let mut sum: usize = 0;
     let mut v: usize = 0;
     while v < mins.len() {
-        sum += chunk_bytes(States::of(states[v]), widen(maxs[v] - mins[v]) + 1);
+        sum += chunk_bytes(States::of(states[v]), width(mins[v], maxs[v]));
         v += 1;
     }
-    sum + 2 * States::Two.bytes_required(mins.len())
+    sum + 2 * flag_bytes(mins.len())
 }
 
 // Check 6.

@@ -7,43 +7,19 @@ use Rattle.tables.proofs.check_names.Statement.{statement}
 use Rattle.tables.proofs.check_names.Tie as tie
 
 abbrev Inv-loop : tie.InvT-loop
-Inv-loop kinds refs vecs mins maxs states vec-refs best₀ v₀ best v = Lowest kinds refs vecs mins maxs states vec-refs v best
+Inv-loop kinds refs vecs mins maxs states vec-refs end best₀ v₀ best v = Lowest kinds refs vecs mins maxs states vec-refs v best
 
 abbrev μ-loop : tie.MeasureT-loop
-μ-loop kinds refs vecs mins maxs states vec-refs best₀ v₀ best v = length mins - v
+μ-loop kinds refs vecs mins maxs states vec-refs end best₀ v₀ best v = length mins - v
 
-add-best : tie.Need-add-best Inv-loop μ-loop
-add-best c = search (names-laws, needs)
+add-end : tie.Need-add-end Inv-loop μ-loop
+add-end c = search (names-laws, needs)
 
 loop-holds : tie.Need-loop-holds Inv-loop μ-loop
 loop-holds c = search (names-laws, needs)
 
-cast-stranger : tie.Need-cast-stranger Inv-loop μ-loop
-cast-stranger c = search (names-laws, needs)
-
-add-stranger : tie.Need-add-stranger Inv-loop μ-loop
-add-stranger c = search (names-laws, needs)
-
-mul-widen : tie.Need-mul-widen Inv-loop μ-loop
-mul-widen c = search (names-laws, needs)
-
-shared-slice-read-widen : tie.Need-shared-slice-read-widen Inv-loop μ-loop
-shared-slice-read-widen c = search (names-laws, needs)
-
-widen-requires : tie.Need-widen-requires Inv-loop μ-loop
-widen-requires c κs = search (names-laws, needs)
-
-mul-widen-2 : tie.Need-mul-widen-2 Inv-loop μ-loop
-mul-widen-2 c = search (names-laws, needs)
-
-shared-slice-read-widen-2 : tie.Need-shared-slice-read-widen-2 Inv-loop μ-loop
-shared-slice-read-widen-2 c = search (names-laws, needs)
-
-widen-requires-2 : tie.Need-widen-requires-2 Inv-loop μ-loop
-widen-requires-2 c κs = search (names-laws, needs)
-
-stranger-requires : tie.Need-stranger-requires Inv-loop μ-loop
-stranger-requires c κs = search (names-laws, needs)
+stranger-in-requires : tie.Need-stranger-in-requires Inv-loop μ-loop
+stranger-in-requires c κs = search (names-laws, needs)
 
 add-v : tie.Need-add-v Inv-loop μ-loop
 add-v c = search (names-laws, needs)
@@ -66,17 +42,9 @@ check-names-spec =
     (tie.spec
     Inv-loop
     μ-loop
-    add-best
+    add-end
     loop-holds
-    cast-stranger
-    add-stranger
-    mul-widen
-    shared-slice-read-widen
-    widen-requires
-    mul-widen-2
-    shared-slice-read-widen-2
-    widen-requires-2
-    stranger-requires
+    stranger-in-requires
     add-v
     loop-less
     loop-again

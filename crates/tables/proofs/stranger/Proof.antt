@@ -1,6 +1,5 @@
 -- `tables::stranger` meets its contract: each need follows from `scan-laws`. Assumes nothing.
 use Prim.Native.Nat.{_-_}
-use lib.ListN.{length}
 use borrow.Author.Needs.{needs}
 use Rattle.tables.specs.Checks.Loops.{Scanning, scan-laws}
 use Rattle.tables.proofs.stranger.Statement.{statement}

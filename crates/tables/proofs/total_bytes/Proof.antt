@@ -21,26 +21,20 @@ shared-slice-read-of c = search (room-laws, needs)
 of-requires : tie.Need-of-requires Inv-loop μ-loop
 of-requires c κs = search (room-laws, needs)
 
-mul-widen : tie.Need-mul-widen Inv-loop μ-loop
-mul-widen c = search (room-laws, needs)
+mul-width : tie.Need-mul-width Inv-loop μ-loop
+mul-width c = search (room-laws, needs)
 
-shared-slice-read-widen : tie.Need-shared-slice-read-widen Inv-loop μ-loop
-shared-slice-read-widen c = search (room-laws, needs)
+shared-slice-read-width : tie.Need-shared-slice-read-width Inv-loop μ-loop
+shared-slice-read-width c = search (room-laws, needs)
 
-mul-widen-2 : tie.Need-mul-widen-2 Inv-loop μ-loop
-mul-widen-2 c = search (room-laws, needs)
+mul-width-2 : tie.Need-mul-width-2 Inv-loop μ-loop
+mul-width-2 c = search (room-laws, needs)
 
-shared-slice-read-widen-2 : tie.Need-shared-slice-read-widen-2 Inv-loop μ-loop
-shared-slice-read-widen-2 c = search (room-laws, needs)
+shared-slice-read-width-2 : tie.Need-shared-slice-read-width-2 Inv-loop μ-loop
+shared-slice-read-width-2 c = search (room-laws, needs)
 
-sub-widen : tie.Need-sub-widen Inv-loop μ-loop
-sub-widen c = search (room-laws, needs)
-
-widen-requires : tie.Need-widen-requires Inv-loop μ-loop
-widen-requires c κs = search (room-laws, needs)
-
-add-chunk-bytes : tie.Need-add-chunk-bytes Inv-loop μ-loop
-add-chunk-bytes c = search (room-laws, needs)
+width-requires : tie.Need-width-requires Inv-loop μ-loop
+width-requires c κs = search (room-laws, needs)
 
 chunk-bytes-requires : tie.Need-chunk-bytes-requires Inv-loop μ-loop
 chunk-bytes-requires c κs = search (room-laws, needs)
@@ -57,8 +51,8 @@ loop-less c = search (room-laws, needs)
 loop-again : tie.Need-loop-again Inv-loop μ-loop
 loop-again c = search (room-laws, needs)
 
-bytes-required-requires : tie.Need-bytes-required-requires Inv-loop μ-loop
-bytes-required-requires c κs = search (room-laws, needs)
+flag-bytes-requires : tie.Need-flag-bytes-requires Inv-loop μ-loop
+flag-bytes-requires c κs = search (room-laws, needs)
 
 mul-result : tie.Need-mul-result Inv-loop μ-loop
 mul-result c = search (room-laws, needs)
@@ -78,19 +72,17 @@ total-bytes-spec =
     loop-holds
     shared-slice-read-of
     of-requires
-    mul-widen
-    shared-slice-read-widen
-    mul-widen-2
-    shared-slice-read-widen-2
-    sub-widen
-    widen-requires
-    add-chunk-bytes
+    mul-width
+    shared-slice-read-width
+    mul-width-2
+    shared-slice-read-width-2
+    width-requires
     chunk-bytes-requires
     add-sum
     add-v
     loop-less
     loop-again
-    bytes-required-requires
+    flag-bytes-requires
     mul-result
     add-result
     returns)

@@ -1,17 +1,15 @@
 -- What a check that passed says, and the facts by which the code of a check goes on.
 -- Assumes nothing.
-use mathlib.Core.Path.{_≡_, refl, sym, ap, subst, _∙_}
+use mathlib.Core.Path.{_≡_, refl, sym}
 use Prim.Native.Nat.{ℕ, zero, suc, _+_, _-_, _<_, _≤_}
-use mathlib.Core.Bool.{Bool, true, false, not, cond, _&&_, _||_, false≢true}
-use mathlib.Core.Logic.{_⊎_, inl, inr, ⊎-elim}
-use mathlib.Core.List.{List, _∷_}
+use mathlib.Core.Bool.{Bool, true, false, cond, _&&_, false≢true}
+use mathlib.Core.Logic.{_⊎_, ⊎-elim}
+use mathlib.Core.List.{List}
 use native.Mathlib.Omega.{arith}
 use native.Mathlib.Numerals.{add-one}
 use native.Mathlib.Nat.{eq-or-lt-of-le}
-use borrow.Author.Tests.{leb-true, eqb-true, eqb-false, not-true}
-use lib.Dec.{leb, eqb}
-use lib.ListN.{length, getD}
-use Rattle.tables.specs.Lists.{Lists, nth, signals, vectors}
+use lib.ListN.{getD}
+use Rattle.tables.specs.Lists.{nth}
 use Rattle.tables.specs.Checks.{unless, lowest, andThen}
 use Rattle.tables.specs.declared.Check.{Check}
 use Rattle.tables.specs.declared.Check.the-variants.{Passed, Refused}

@@ -1,20 +1,20 @@
 -- Tables that pass the checks are good.
 -- Assumes nothing.
-use mathlib.Core.Path.{_≡_, refl, sym, ap, _∙_}
+use mathlib.Core.Path.{_≡_, refl, _∙_}
 use Prim.Native.Nat.{ℕ, zero, suc, _+_, _-_, _<_, _≤_}
-use mathlib.Core.Bool.{Bool, true, false, not, cond, _&&_, _||_}
+use mathlib.Core.Bool.{true, not, _||_}
 use mathlib.Core.List.{List, [], _∷_}
 use mathlib.Core.Logic.{_⊎_, inl, inr, ⊎-elim}
-use native.Mathlib.Numerals.{add-one, sub-one}
+use native.Mathlib.Numerals.{add-one}
 use native.Mathlib.Omega.{arith}
 use native.Mathlib.Decide.{ℕ-discrete}
-use borrow.Author.Tests.{leb-true, eqb-true, eqb-false, not-true, eq-eqb, ne-eqb, le-leb, lt-leb}
-use lib.Dec.{eqb, leb}
+use borrow.Author.Tests.{leb-true, eqb-true, eqb-false, not-true, eq-eqb, ne-eqb, le-leb}
+use lib.Dec.{eqb}
 use lib.ListN.{length, getD}
 use Rattle.states.specs.Kind.{stateOf}
 use Rattle.slices.specs.Choice.{tri, le-or-lt}
 use Rattle.tables.specs.Lists.{Lists, nth, signals, vectors}
-use Rattle.tables.specs.Layout.{layoutOf, start, totalBytes, widths}
+use Rattle.tables.specs.Layout.{layoutOf}
 use Rattle.tables.specs.Layout.Laws.{width-is, state-is}
 use Rattle.tables.specs.Checks.{withinLimit, equalLengths, goodVector, holds, suits, goodNumber, goodSignal, namesAll, check1, check2, check3, check4, check5, check6, checks}
 use Rattle.tables.specs.Checks.Laws.{nth-at, nth-less, both, unless-passed, then-passed, lowest-passed}
@@ -152,10 +152,10 @@ module _ (t : Lists) where
 
 -- tables that pass all checks
 module _ (t : Lists) (input events values room list : ℕ) (e : checks t input events values room list ≡ Passed) where
-  abbrev Five : Type 0
-  Five = Limits input events values room list × Good t room list
+  abbrev Both : Type 0
+  Both = Limits input events values room list × Good t room list
 
-  all-good : Five
+  all-good : Both
   unfolding checks check6 vectors
   all-good =
       let a = then-passed _ _ e in

@@ -1,0 +1,76 @@
+-- Parts of sections, as scans of their own, and what code answers after each.
+-- Assumes nothing.
+use Prim.Native.Nat.{ℕ}
+use mathlib.Core.Bool.{Bool, true, false, cond}
+use mathlib.Core.List.{List, []}
+use Rattle.slices.specs.Splice.{part}
+use Rattle.numbers.specs.Fixed.{fixed, negative}
+use Rattle.numbers.specs.Marks.{esn}
+use Rattle.numbers.specs.declared.marks.Section.{Section}
+use Rattle.numbers.specs.declared.marks.Section.the-variants.{Snapshot, Cycle, Directory, Tailer, Unknown}
+use Rattle.tables.specs.Lists.{Lists, lists, nth, signals}
+use Rattle.values.specs.Value.{value}
+use Rattle.rules.specs.Gather.{time, write, stepEnd}
+use Rattle.gather.specs.Memory.{Mem, memOf}
+use Rattle.gather.specs.Follows.{Runs}
+use Rattle.gather.specs.Run.{Scan, say, done, fault, and-then}
+use Rattle.gather.specs.declared.Gathered.{Gathered}
+use Rattle.gather.specs.declared.Wrote.{Wrote}
+use Rattle.gather.specs.declared.Wrote.the-variants.{Done, Full}
+use Rattle.gather.specs.declared.Part.{Part}
+use Rattle.gather.specs.declared.Part.the-variants.{Went, Out}
+use Rattle.signals.specs.Sections.{then, field, endMark, eachValue}
+use Rattle.signals.specs.declared.Place.{Place}
+use Rattle.signals.specs.declared.Place.the-variants.{At, Bad}
+
+-- tables of signals of these kinds: of tables, ids are judged by the number of signals alone
+abbrev pub withKinds : List ℕ → Lists
+withKinds kinds = lists kinds [] [] [] [] [] []
+
+-- bytes that make no event
+unfoldable pub scanOf : Place → Scan
+scanOf (At i) = done i
+scanOf (Bad n p) = fault n p
+
+unfoldable pub passedOf : Gathered → Place → Part
+passedOf c (At i) = Went i c
+passedOf c (Bad n p) = Out n p
+
+-- of a directory, "a 4-byte id and a signed 32-bit position"
+unfoldable pub oneEntry : Bool → List ℕ → ℕ → Scan
+oneEntry flag s i = field 4 s i (λ j. field 4 s j (λ k. cond (negative 32 (fixed flag (part s j 4))) (fault 11 j) (done k)))
+
+-- "16: next event doesn't fit event or value room: next unread byte"
+unfoldable pub partOf : ℕ → Wrote → Part
+partOf i (Done c) = Went i c
+partOf i Full = Out 16 i
+
+-- the value of a signal
+unfoldable pub oneValue : Lists → List ℕ → (id i : ℕ) → Scan
+oneValue t s id i = then (value (nth (t .kinds) id) s i) (λ v j. say (write id v i) j (done j))
+
+-- a step: its time, what it changes, its end
+unfoldable pub toEnd : Scan → Scan
+toEnd changes = and-then changes (λ j. say stepEnd j (done j))
+
+unfoldable pub aStep : (u i : ℕ) → (ℕ → Scan) → Scan
+aStep u i changes = say (time u) i (toEnd (changes i))
+
+-- of a snapshot, what follows its head
+unfoldable pub snapshotBody : Lists → List ℕ → (u i : ℕ) → Scan
+snapshotBody t s u i = and-then (aStep u i (eachValue t s (signals t) 1)) (λ j. endMark esn s j)
+
+abbrev pub isTailer : Section → Bool
+isTailer Snapshot = false
+isTailer Cycle = false
+isTailer Directory = false
+isTailer Tailer = true
+isTailer Unknown = false
+
+-- code that begins a step, whatever the tables and the working room are
+pub record Begins (events values events' : List ℕ) (c : Gathered) (r : Part) (u i : ℕ) : Type 0 where
+  pub begins : (t : Lists) (room list : List ℕ) → Runs t (memOf room list events values) (memOf room list events' values) c r (say (time u) i (done i))
+
+-- code that makes no event, whatever the tables and the memory are
+pub record Passes (c : Gathered) (r : Part) (sc : Scan) : Type 0 where
+  pub passes : (t : Lists) (m : Mem) → Runs t m m c r sc
