@@ -1,0 +1,239 @@
+-- Demands 1, 2 and 3 of the three entries, sentence by sentence, and their proof: each sentence a citation.
+-- "No signal table, input or buffer length stops it", and it "doesn't touch the inputs": an entry is a total function from the inputs and the lengths of the lent buffers
+-- to the answer and what these buffers hold. That the code gives just this is the promise of each public call.
+-- An answer is an acceptance where its number is 0. `eventsFrom t sc` are the events that the acts of a scan make by the gathering rules, from the beginning.
+-- Assumes nothing.
+use Prim.Native.Nat.{ℕ, _-_, _≤_}
+use mathlib.Core.Path.{_≡_, refl, ap, _∙_}
+use mathlib.Core.Logic.{_≢_}
+use mathlib.Core.Bool.{Bool, false}
+use mathlib.Core.Option.{some}
+use mathlib.Core.List.{List, [], Sublistᴰ}
+use native.Mathlib.Omega.{arith}
+use lib.ListN.{length, take, drop, replicate}
+use Rattle.tables.specs.Lists.{Lists}
+use Rattle.tables.specs.declared.Check.the-variants.{Passed, Refused}
+use Rattle.rules.specs.Vector.{actsEarly}
+use Rattle.rules.specs.Gather.{Good, begin}
+use Rattle.rules.specs.Steps.Owned.{historyOf}
+use Rattle.rules.specs.Once.{Single, rising-single}
+use Rattle.rules.specs.Demand3.{Demand3, demand3}
+use Rattle.records.specs.Out.{Out, empty, appendAll}
+use Rattle.gather.specs.Run.{gathers, Scan, acts}
+use Rattle.gather.specs.Run.Rendered.{rendered, valuesOf, stepsOf}
+use Rattle.gather.specs.Run.Events.{Ends, Overflows}
+use Rattle.gather.specs.Run.Times.{timesOf, made-steps}
+use Rattle.gather.specs.Run.Good.{gathers-good}
+use Rattle.signals.specs.Sections.{scanSections}
+use Rattle.signals.specs.Sections.Stepped.{sections-rising}
+use Rattle.changes.specs.Changes.{scanChanges}
+use Rattle.encoder.specs.Rule.Keeping.{records, unset, keptOf, bytesOf}
+use Rattle.encoder.specs.Rule.Keeping.Laws.{kept-part}
+use Rattle.encoder.specs.Rule.Keeping as keeping
+use Rattle.doorquill.specs.declared.Answer.{Answer}
+use Rattle.doorquill.specs.Entries.{Outcome, answer, eventBytes, valueBytes, padded, Left, Lent, LeftKept, leaves, reads, readSections, readChanges, applyTimeRule}
+use Rattle.doorquill.specs.Entries.Laws.{Allowed, padded-length, padded-front, padded-past, padded-nothing, answer-events, answer-values, refusal-rest, refusal-events, refusal-values, acceptance-place, allowed-number, allowed-read, allowed-events, allowed-values}
+use Rattle.doorquill.specs.Entries.Scanned.{Scanned, sections-scanned, changes-scanned}
+use Rattle.doorquill.specs.Entries.Reads as reading
+use Rattle.doorquill.specs.Entries.Reads.{checksOf, roomsOf, eventsFrom}
+use Rattle.doorquill.specs.Entries.Keeps as ruling
+use Rattle.doorquill.specs.Entries.Keeps.{limitsOf, ruleOutcome}
+
+-- ---- demand 1
+
+-- of an answer, over an input of so many bytes
+pub record Answers (input : ℕ) (a : Answer) : Type 0 where
+  -- "A refusal gives a number and a place with all other fields zero, ..
+  pub refusal : a .number ≢ 0 → (a .read ≡ 0) × (a .events ≡ 0) × (a .values ≡ 0) × (a .steps ≡ 0)
+  pub number : a .number ≤ 20
+  pub acceptance : a .number ≡ 0 → a .place ≡ 0
+  -- no more is read than there is
+  pub read : a .read ≤ input
+
+-- of an output buffer of so many bytes
+pub record Output (a : Answer) (reported size : ℕ) (buffer : List ℕ) : Type 0 where
+  -- .. zeroes every output and working buffer"
+  pub zeroed : a .number ≢ 0 → buffer ≡ replicate size 0
+  -- "No signal table, input or buffer length .. takes it outside its buffers."
+  pub long : length buffer ≡ size
+  pub within : reported ≤ size
+  -- "Output past the reported bytes is zero."
+  pub past : drop reported buffer ≡ replicate (size - reported) 0
+
+pub record Demand1 (t : Lists) (input : ℕ) (l : Lent) (x : Left) : Type 0 where
+  pub answers : Answers input (x .answer)
+  pub events : Output (x .answer) (x .answer .events) (l .events) (x .events)
+  pub values : Output (x .answer) (x .answer .values) (l .values) (x .values)
+  -- "Working buffers are zero at every return."
+  pub room : x .room ≡ replicate (l .room) 0
+  pub list : x .list ≡ replicate (l .list) 0
+  -- "Each public entry does its own checking."
+  pub checks : (n p : ℕ) → checksOf t input l ≡ Refused n p → (x .answer .number ≡ n) × (x .answer .place ≡ p)
+
+pub record RuleDemand1 (s : List ℕ) (values room : ℕ) (x : LeftKept) : Type 0 where
+  pub answers : Answers (length s) (x .answer)
+  pub kept : Output (x .answer) (x .answer .events) room (x .kept)
+  -- "for the time rule, value bytes are 0"
+  pub no-values : x .answer .values ≡ 0
+  pub checks : limitsOf s values room ≡ false → (x .answer .number ≡ 1) × (x .answer .place ≡ 0)
+
+-- ---- demand 2
+
+-- `sc` is what the input says
+pub record Demand2 (t : Lists) (input : ℕ) (l : Lent) (sc : Scan) (x : Left) : Type 0 where
+  -- "On every section input that document 01 accepts, the time and value events equal, in order and content, ..": their records, each value's start where the last one ended, ..
+  pub events : x .answer .number ≡ 0 → take (x .answer .events) (x .events) ≡ rendered 0 (eventsFrom t sc)
+  -- .. and their values: "Value bytes lie end to end in event order."
+  pub values : x .answer .number ≡ 0 → take (x .answer .values) (x .values) ≡ valuesOf (eventsFrom t sc)
+  -- "steps (time events made)": one for each step of the input
+  pub steps : x .answer .number ≡ 0 → x .answer .steps ≡ stepsOf (eventsFrom t sc)
+  pub times : x .answer .number ≡ 0 → x .answer .steps ≡ timesOf (acts sc)
+  -- "bytes read": up to where the input said that it ends
+  pub read : x .answer .number ≡ 0 → Ends (x .answer .read) sc
+  -- whatever passes the checks, is read to its end and fits is accepted
+  pub accepts : checksOf t input l ≡ Passed → (i : ℕ) → Ends i sc → (o : Out) → appendAll (roomsOf l) (eventsFrom t sc) (some empty) ≡ some o → x .answer .number ≡ 0
+  -- .. and a refusal has its reason: a check, the scan, or an event that does not fit
+  pub refuses : x .answer .number ≢ 0 → reading.Why t input l sc (x .answer .number) (x .answer .place)
+  -- "16: next event doesn't fit event or value room: next unread byte"
+  pub full : x .answer .number ≡ 16 → Overflows t (roomsOf l) sc (begin (gathers t)) empty (x .answer .place)
+
+-- "the time rule keeps what its Encoder would keep"
+pub record RuleDemand2 (s : List ℕ) (values room : ℕ) (x : LeftKept) : Type 0 where
+  -- of the records of its input, all of it, ..
+  pub whole : x .answer .number ≡ 0 → (bytesOf (records s) ≡ s) × (x .answer .read ≡ length s)
+  -- .. those that the clock keeps, "copied unaltered", in order, ..
+  pub kept : x .answer .number ≡ 0 → take (x .answer .events) (x .kept) ≡ bytesOf (keptOf unset (records s))
+  pub sublist : Sublistᴰ (keptOf unset (records s)) (records s)
+  -- .. and "steps are times kept"
+  pub steps : x .answer .number ≡ 0 → x .answer .steps ≡ keeping.timesOf (keptOf unset (records s))
+  pub refuses : x .answer .number ≢ 0 → ruling.Why s values room (x .answer .number) (x .answer .place)
+
+-- ---- their proofs
+
+module _ (input events values : ℕ) (o : Outcome) (a : Allowed input events values o) where
+  answers-of : Answers input (answer o)
+  answers-of = record {
+    refusal = refusal-rest o;
+    number = allowed-number input events values o a;
+    acceptance = acceptance-place input events values o a;
+    read = allowed-read input events values o a;
+  }
+
+  output-of : (bytes : List ℕ) (reported size : ℕ) → reported ≡ length bytes → length bytes ≤ size → (answer o .number ≢ 0 → bytes ≡ []) → Output (answer o) reported size (padded size bytes)
+  output-of bytes reported size e h none = record {
+    zeroed = λ n. padded-nothing size bytes (none n);
+    long = padded-length size bytes h;
+    within = omega arith;
+    past = padded-past size bytes reported e;
+  }
+
+  events-of : Output (answer o) (answer o .events) events (padded events (eventBytes o))
+  events-of = output-of (eventBytes o) (answer o .events) events (answer-events o) (allowed-events input events values o a) (refusal-events o)
+
+  values-of : Output (answer o) (answer o .values) values (padded values (valueBytes o))
+  values-of = output-of (valueBytes o) (answer o .values) values (answer-values o) (allowed-values input events values o a) (refusal-values o)
+
+-- a reading, whatever scans its input
+module _ (t : Lists) (input : ℕ) (l : Lent) (sc : Scan) (w : Scanned input sc) where
+  abbrev result : Outcome
+  result = reads t input l sc
+
+  allowed : Allowed input (l .events) (l .values) result
+  allowed = reading.read-allowed t input l sc w
+
+  accepted : answer result .number ≡ 0 → reading.Accepted t input l sc (answer result .read) (eventBytes result) (valueBytes result) (answer result .steps)
+  accepted = reading.reading-accepted t input l sc w
+
+  demand1 : Demand1 t input l (leaves l result)
+  unfolding leaves answer
+  demand1 = record {
+    answers = answers-of input (l .events) (l .values) result allowed;
+    events = events-of input (l .events) (l .values) result allowed;
+    values = values-of input (l .events) (l .values) result allowed;
+    room = refl;
+    list = refl;
+    checks = λ n p c. let e = reading.read-checks t input l sc n p c in (ap (λ o. answer o .number) e, ap (λ o. answer o .place) e);
+  }
+
+  demand2 : Demand2 t input l sc (leaves l result)
+  unfolding leaves answer
+  demand2 = record {
+    events = λ h. padded-front (l .events) (eventBytes result) (answer result .events) (answer-events result) ∙ accepted h .events;
+    values = λ h. padded-front (l .values) (valueBytes result) (answer result .values) (answer-values result) ∙ accepted h .values;
+    steps = λ h. accepted h .steps;
+    times = λ h. accepted h .steps ∙ made-steps t (begin (gathers t)) (acts sc);
+    read = λ h. accepted h .ended;
+    accepts = λ c i d o h. ap (λ x. answer x .number) (reading.read-accepts t input l sc c i d o h);
+    refuses = reading.reading-refused t input l sc;
+    full = reading.reading-full t input l sc w;
+  }
+
+  good : answer result .number ≡ 0 → Good (gathers t)
+  good h = gathers-good t input (l .events) (l .values) (l .room) (l .list) (accepted h .passed)
+
+  demand3-of : answer result .number ≡ 0 → Demand3 actsEarly (gathers t) (acts sc)
+  demand3-of h = demand3 (gathers t) (good h) (acts sc) (w .stepped (answer result .read) (accepted h .ended))
+
+-- ---- section reading
+
+module _ (t : Lists) (flag : Bool) (s : List ℕ) (l : Lent) where
+  pub sections-1 : Demand1 t (length s) l (readSections t flag s l)
+  unfolding readSections
+  sections-1 = demand1 t (length s) l (scanSections t flag s) (sections-scanned t flag s)
+
+  pub sections-2 : Demand2 t (length s) l (scanSections t flag s) (readSections t flag s l)
+  unfolding readSections
+  sections-2 = demand2 t (length s) l (scanSections t flag s) (sections-scanned t flag s)
+
+  -- "3. In an accepted reading, before the time rule, every write of a vector bit belongs to exactly one event: .."
+  pub sections-3 : readSections t flag s l .answer .number ≡ 0 → Demand3 actsEarly (gathers t) (acts (scanSections t flag s))
+  unfolding readSections leaves
+  sections-3 = demand3-of t (length s) l (scanSections t flag s) (sections-scanned t flag s)
+
+  -- and sections make no event by rule (a), and at most one of a vector in a step, since ids rise in each
+  pub sections-single : readSections t flag s l .answer .number ≡ 0 → (v : ℕ) → Single false (historyOf actsEarly (gathers t) (acts (scanSections t flag s)) v)
+  unfolding readSections leaves
+  sections-single h = rising-single actsEarly (gathers t) (good t (length s) l (scanSections t flag s) (sections-scanned t flag s) h) (acts (scanSections t flag s)) (sections-rising t flag s)
+
+-- ---- change reading
+
+module _ (t : Lists) (s : List ℕ) (l : Lent) where
+  pub changes-1 : Demand1 t (length s) l (readChanges t s l)
+  unfolding readChanges
+  changes-1 = demand1 t (length s) l (scanChanges t s) (changes-scanned t s)
+
+  pub changes-2 : Demand2 t (length s) l (scanChanges t s) (readChanges t s l)
+  unfolding readChanges
+  changes-2 = demand2 t (length s) l (scanChanges t s) (changes-scanned t s)
+
+  pub changes-3 : readChanges t s l .answer .number ≡ 0 → Demand3 actsEarly (gathers t) (acts (scanChanges t s))
+  unfolding readChanges leaves
+  changes-3 = demand3-of t (length s) l (scanChanges t s) (changes-scanned t s)
+
+-- ---- the time rule
+
+module _ (s : List ℕ) (values room : ℕ) where
+  abbrev rule : Outcome
+  rule = ruleOutcome s values room
+
+  kept : answer rule .number ≡ 0 → ruling.Accepted s values room (answer rule .read) (eventBytes rule) (valueBytes rule) (answer rule .steps)
+  kept = ruling.ruling-accepted s values room
+
+  pub rule-1 : RuleDemand1 s values room (applyTimeRule s values room)
+  unfolding applyTimeRule answer
+  rule-1 = record {
+    answers = answers-of (length s) room 0 rule (ruling.rule-allowed s values room);
+    kept = events-of (length s) room 0 rule (ruling.rule-allowed s values room);
+    no-values = omega (arith, answer-values rule, allowed-values (length s) room 0 rule (ruling.rule-allowed s values room));
+    checks = λ c. (rw c, rw c);
+  }
+
+  pub rule-2 : RuleDemand2 s values room (applyTimeRule s values room)
+  unfolding applyTimeRule
+  rule-2 = record {
+    whole = λ h. (kept h .by-rule .whole, kept h .by-rule .read);
+    kept = λ h. padded-front room (eventBytes rule) (answer rule .events) (answer-events rule) ∙ (kept h .events ∙ kept h .by-rule .events);
+    sublist = kept-part unset (records s);
+    steps = λ h. kept h .steps ∙ kept h .by-rule .steps;
+    refuses = ruling.ruling-refused s values room;
+  }

@@ -1,0 +1,103 @@
+-- The three entries: the answer and what each lent buffer holds at the end, from the inputs alone.
+-- Assumes nothing.
+use Prim.Native.Nat.{ℕ, _-_}
+use mathlib.Core.Bool.{Bool, cond, _&&_}
+use mathlib.Core.List.{List, [], _++_}
+use lib.ListN.{length, replicate}
+use Rattle.tables.specs.Lists.{Lists}
+use Rattle.tables.specs.Checks.{checks, withinLimit}
+use Rattle.tables.specs.declared.Check.{Check}
+use Rattle.tables.specs.declared.Check.the-variants.{Passed, Refused}
+use Rattle.records.specs.Out.{Rooms, Out}
+use Rattle.gather.specs.Run.{Scan, Went, went, out, runAll}
+use Rattle.signals.specs.Sections.{scanSections}
+use Rattle.changes.specs.Changes.{scanChanges}
+use Rattle.encoder.specs.Rule.{Ruled, timeRule}
+use Rattle.encoder.specs.Rule as rules
+use Rattle.doorquill.specs.declared.Answer.{Answer}
+pub mod Laws
+pub mod Numbers
+pub mod Scanned
+pub mod Reads
+pub mod Keeps
+
+-- how a call ends, and the bytes that it reports
+pub data Outcome : Type 0 where
+  accepted : (read : ℕ) (events values : List ℕ) (steps : ℕ) → Outcome
+  refused : (number place : ℕ) → Outcome
+
+-- "An accepted answer has 0, bytes read, event bytes, value bytes and steps"; "a refusal gives a number and a place with all other fields zero"
+unfoldable pub answer : Outcome → Answer
+answer (accepted i es vs n) = record { number = 0; place = 0; read = i; events = length es; values = length vs; steps = n }
+answer (refused n p) = record { number = n; place = p; read = 0; events = 0; values = 0; steps = 0 }
+
+unfoldable pub eventBytes : Outcome → List ℕ
+eventBytes (accepted i es vs n) = es
+eventBytes (refused n p) = []
+
+unfoldable pub valueBytes : Outcome → List ℕ
+valueBytes (accepted i es vs n) = vs
+valueBytes (refused n p) = []
+
+-- "Output past the reported bytes is zero."
+unfoldable pub padded : ℕ → List ℕ → List ℕ
+padded n l = l ++ replicate (n - length l) 0
+
+-- the answer, and what each lent buffer holds: the event and the value room, and the two working buffers
+pub record Left : Type 0 where
+  pub answer : Answer
+  pub events : List ℕ
+  pub values : List ℕ
+  pub room : List ℕ
+  pub list : List ℕ
+
+-- how long each of them is
+pub record Lent : Type 0 where
+  pub events : ℕ
+  pub values : ℕ
+  pub room : ℕ
+  pub list : ℕ
+
+-- "Working buffers are zero at every return."
+unfoldable pub leaves : Lent → Outcome → Left
+leaves l o =
+    record {
+      answer = answer o;
+      events = padded (l .events) (eventBytes o);
+      values = padded (l .values) (valueBytes o);
+      room = replicate (l .room) 0;
+      list = replicate (l .list) 0;
+    }
+
+-- "Checks 1 to 6 come first"
+unfoldable pub checked : Check → Outcome → Outcome
+checked Passed o = o
+checked (Refused n p) o = refused n p
+
+unfoldable pub outcome : Went → Outcome
+outcome (went i g o) = accepted i (o .events) (o .values) (o .steps)
+outcome (out n p) = refused n p
+
+unfoldable pub reads : Lists → ℕ → Lent → Scan → Outcome
+reads t input l sc =
+    checked (checks t input (l .events) (l .values) (l .room) (l .list)) (outcome (runAll t (record { events = l .events; values = l .values }) sc))
+
+unfoldable pub readSections : Lists → Bool → List ℕ → Lent → Left
+readSections t flag s l = leaves l (reads t (length s) l (scanSections t flag s))
+
+unfoldable pub readChanges : Lists → List ℕ → Lent → Left
+readChanges t s l = leaves l (reads t (length s) l (scanChanges t s))
+
+-- the time rule: its answer, and what the room for kept events holds
+pub record LeftKept : Type 0 where
+  pub answer : Answer
+  pub kept : List ℕ
+
+unfoldable pub ruled : Ruled → Outcome
+ruled (rules.ruled i k) = accepted i (k .events) [] (k .steps)
+ruled (rules.refused n p) = refused n p
+
+unfoldable pub applyTimeRule : List ℕ → (values room : ℕ) → LeftKept
+applyTimeRule s values room =
+    let o = cond (withinLimit (length s) && withinLimit values && withinLimit room) (ruled (timeRule s values room)) (refused 1 0) in
+    record { answer = answer o; kept = padded room (eventBytes o) }

@@ -1,0 +1,5 @@
+pub mod Entries
+pub mod Rows
+pub mod Kept
+pub mod Unique
+pub mod Demands

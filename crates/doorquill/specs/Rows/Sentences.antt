@@ -1,0 +1,127 @@
+-- Document 01's other sentences: the six numbers, the event bytes and the value bytes.
+-- Assumes nothing.
+use mathlib.Core.Path.{_≡_, refl}
+use mathlib.Core.Bool.{true}
+use mathlib.Core.List.{[], _∷_, _++_}
+use lib.ListN.{replicate}
+use Rattle.numbers.specs.Fixed.{bigBytes}
+use Rattle.doorquill.specs.Entries.{readSections}
+use Rattle.doorquill.specs.Rows.{Gives, Fully, Keeps, ample, tables, noSignals, lone, plain, twoState, nineState, sections, changes, rule}
+use Rattle.doorquill.specs.Rows.Opened.{opened}
+
+-- "(c) if the width is at most 7 or a multiple of 8 and every bit is marked, make an event and clear": so on 7, 8 and 16, and on two nine-state values;
+-- "Rule (c) never acts on widths such as 9 or 12": every bit written, and one of them once more
+pub early-widths :
+    Fully (changes (twoState 7) 58 0x01000000000000000002000000010102000000020102000000030102000000040102000000050102000000060102000000070102000000070104 ample) (0, 0, 58, 35, 2, 1) (bigBytes 35 0x0100000000000000000200000001000000000000000102000000010000000100000001) (bigBytes 2 0x7f7f)
+    × Fully (changes (twoState 8) 64 0x01000000000000000002000000010102000000020102000000030102000000040102000000050102000000060102000000070102000000080102000000080104 ample) (0, 0, 64, 35, 2, 1) (bigBytes 35 0x0100000000000000000200000001000000000000000102000000010000000100000001) (bigBytes 2 0xffff)
+    × Fully (changes (twoState 16) 112 0x010000000000000000020000000101020000000201020000000301020000000401020000000501020000000601020000000701020000000801020000000901020000000a01020000000b01020000000c01020000000d01020000000e01020000000f0102000000100102000000100104 ample) (0, 0, 112, 35, 4, 1) (bigBytes 35 0x0100000000000000000200000001000000000000000202000000010000000200000002) (bigBytes 4 0xffffffff)
+    × Fully (changes (twoState 9) 70 0x01000000000000000002000000010102000000020102000000030102000000040102000000050102000000060102000000070102000000080102000000090102000000090104 ample) (0, 0, 70, 22, 2, 1) (bigBytes 22 0x01000000000000000002000000010000000000000002) (bigBytes 2 0x01ff)
+    × Fully (changes (twoState 12) 88 0x010000000000000000020000000101020000000201020000000301020000000401020000000501020000000601020000000701020000000801020000000901020000000a01020000000b01020000000c0102000000090104 ample) (0, 0, 88, 22, 2, 1) (bigBytes 22 0x01000000000000000002000000010000000000000002) (bigBytes 2 0x0fff)
+    × Fully (changes (nineState 2) 28 0x01000000000000000002000000010302000000020302000000020304 ample) (0, 0, 28, 35, 2, 1) (bigBytes 35 0x0100000000000000000300000001000000000000000103000000010000000100000001) (bigBytes 2 0x1111)
+unfolding opened
+early-widths = (refl, refl, refl, refl, refl, refl)
+
+-- "(a) if that bit was written since the vector's last event and the new value differs, make an event of the stored vector and clear its marks":
+-- not where an event came between, by rule (a) itself, by rule (c) or by the step's end
+pub rewritten :
+    Fully (changes (twoState 9) 28 0x01000000000000000002000000010102000000020102000000010004 ample) (0, 0, 28, 35, 4, 1) (bigBytes 35 0x0100000000000000000200000001000000000000000202000000010000000200000002) (bigBytes 4 0x01800080)
+    × Fully (changes (twoState 9) 34 0x01000000000000000002000000010102000000020102000000010002000000020004 ample) (0, 0, 34, 35, 4, 1) (bigBytes 35 0x0100000000000000000200000001000000000000000202000000010000000200000002) (bigBytes 4 0x01800000)
+    × Fully (changes (twoState 2) 28 0x01000000000000000002000000010102000000020102000000010004 ample) (0, 0, 28, 35, 2, 1) (bigBytes 35 0x0100000000000000000200000001000000000000000102000000010000000100000001) (bigBytes 2 0x0301)
+    × Fully (changes (twoState 9) 32 0x0100000000000000000200000009010401000000000000000002000000090004 ample) (0, 0, 32, 44, 4, 2) (bigBytes 44 0x0100000000000000000200000001000000000000000201000000000000000002000000010000000200000002) (bigBytes 4 0x00010000)
+unfolding opened
+rewritten = (refl, refl, refl, refl)
+
+-- "At step end each vector with marks makes one event, in order of its first write in the step", not of its latest, not of its number and not of an earlier step
+pub step-end-order :
+    Fully (changes (tables (replicate 18 3) (replicate 9 1 ++ replicate 9 2) (replicate 9 1 ++ replicate 9 2) (1 ∷ 10 ∷ []) (9 ∷ 18 ∷ []) (1 ∷ 1 ∷ []) (1 ∷ 2 ∷ [])) 28 0x01000000000000000002000000090102000000110102000000090104 ample) (0, 0, 28, 35, 4, 1) (bigBytes 35 0x0100000000000000000200000001000000000000000202000000020000000200000002) (bigBytes 4 0x00010002)
+    × Fully (changes (tables (replicate 18 3) (replicate 9 1 ++ replicate 9 2) (replicate 9 1 ++ replicate 9 2) (1 ∷ 10 ∷ []) (9 ∷ 18 ∷ []) (1 ∷ 1 ∷ []) (1 ∷ 2 ∷ [])) 22 0x01000000000000000002000000110102000000090104 ample) (0, 0, 22, 35, 4, 1) (bigBytes 35 0x0100000000000000000200000002000000000000000202000000010000000200000002) (bigBytes 4 0x00020001)
+    × Fully (changes (tables (replicate 18 3) (replicate 9 1 ++ replicate 9 2) (replicate 9 1 ++ replicate 9 2) (1 ∷ 10 ∷ []) (9 ∷ 18 ∷ []) (1 ∷ 1 ∷ []) (1 ∷ 2 ∷ [])) 44 0x0100000000000000000200000009010200000012010401000000000000000002000000110102000000080104 ample) (0, 0, 44, 70, 8, 2) (bigBytes 70 0x01000000000000000002000000010000000000000002020000000200000002000000020100000000000000000200000002000000040000000202000000010000000600000002) (bigBytes 8 0x0001000100030003)
+unfolding opened
+step-end-order = (refl, refl, refl)
+
+-- "Two vectors may share a reference"
+pub shared-reference :
+    Fully (changes (tables (1 ∷ 3 ∷ []) (7 ∷ 7 ∷ []) (1 ∷ 2 ∷ []) (1 ∷ 2 ∷ []) (1 ∷ 2 ∷ []) (0 ∷ 1 ∷ []) (7 ∷ 7 ∷ [])) 22 0x01000000000000000002000000020102000000010804 ample) (0, 0, 22, 35, 2, 1) (bigBytes 35 0x0100000000000000000200000007000000000000000103000000070000000100000001) (bigBytes 2 0x0108)
+unfolding opened
+shared-reference = refl
+
+-- "a value for each id 1..n, step end": a vector of width 9 makes its event at the step's end, behind the events of the others
+pub snapshot-vector :
+    Fully (sections (tables (replicate 9 3 ++ 4 ∷ []) (replicate 9 1 ++ 2 ∷ []) (replicate 9 1 ++ 0 ∷ []) (1 ∷ []) (9 ∷ []) (1 ∷ []) (1 ∷ [])) 42 0x534e50000000000000000000000000000100000000000000012a45534e00544149000000000000000000 ample) (0, 0, 42, 35, 3, 1) (bigBytes 35 0x0100000000000000000200000002000000000000000102000000010000000100000002) (bigBytes 3 0x2a0101)
+unfolding opened
+snapshot-vector = refl
+
+-- "Signal kinds 0 and 1 make nine-state events, 2 to 5 two-state events, 6 real events."
+pub event-kinds :
+    Fully (sections (tables (0 ∷ 1 ∷ 2 ∷ 3 ∷ 4 ∷ 5 ∷ 6 ∷ []) (1 ∷ 2 ∷ 3 ∷ 4 ∷ 5 ∷ 6 ∷ 7 ∷ []) (0 ∷ 1 ∷ 0 ∷ 2 ∷ 0 ∷ 0 ∷ 0 ∷ []) (2 ∷ 4 ∷ []) (2 ∷ 4 ∷ []) (0 ∷ 1 ∷ []) (2 ∷ 4 ∷ [])) 46 0x534e500000000000000000000000000003030101ff7f010203040506070845534e00544149000000000000000000 ample) (0, 0, 46, 100, 13, 1) (bigBytes 100 0x01000000000000000003000000010000000000000001030000000200000001000000010200000003000000020000000102000000040000000300000001020000000500000004000000010200000006000000050000000804000000070807060504030201) (bigBytes 13 0x01010101ffffffffffffffffff)
+unfolding opened
+event-kinds = refl
+
+-- "3 wide write (id, 8 bytes, the integer or the real's bits)"
+pub wide-writes :
+    Fully (changes (plain (5 ∷ 6 ∷ []) (1 ∷ 2 ∷ [])) 36 0x0100000000000000000300000001fffffffffffffffe0300000002010203040506070804 ample) (0, 0, 36, 35, 8, 1) (bigBytes 35 0x0100000000000000000200000001000000000000000804000000020102030405060708) (bigBytes 8 0xfffffffffffffffe)
+unfolding opened
+wide-writes = refl
+
+-- "kinds 0 and 1 one byte 0..8, mapped by [5,2,0,1,3,6,7,4,8]"
+pub nine-states :
+    Fully (sections (plain (replicate 9 0) (replicate 9 1)) 41 0x534e500000000000000000000000000000010203040506070845534e00544149000000000000000000 ample) (0, 0, 41, 126, 9, 1) (bigBytes 126 0x010000000000000000030000000100000000000000010300000001000000010000000103000000010000000200000001030000000100000003000000010300000001000000040000000103000000010000000500000001030000000100000006000000010300000001000000070000000103000000010000000800000001) (bigBytes 9 0x050200010306070408)
+unfolding opened
+nine-states = refl
+
+-- "Integers of fixed size follow the flag."; "kind 6 eight bytes, always little-endian, the flag aside"
+pub flag :
+    Fully (sections (plain (5 ∷ 6 ∷ 4 ∷ []) (1 ∷ 2 ∷ 3 ∷ [])) 42 0x534e50000000000002010000000000007e0102030405060708ff45534e00544149000000000000000000 ample) (0, 0, 42, 48, 9, 1) (bigBytes 48 0x010000000000000102020000000100000000000000080400000002080706050403020102000000030000000800000001) (bigBytes 9 0xfffffffffffffffeff)
+    × Fully (readSections (plain (5 ∷ 6 ∷ 4 ∷ []) (1 ∷ 2 ∷ 3 ∷ [])) true (bigBytes 42 0x534e50000000000000000000000001027e0102030405060708ff45534e00544149000000000000000000) ample) (0, 0, 42, 48, 9, 1) (bigBytes 48 0x010000000000000102020000000100000000000000080400000002080706050403020102000000030000000800000001) (bigBytes 9 0xfffffffffffffffeff)
+    × Fully (sections noSignals 30 0x435943000201000000000000007f45435900544149000000000000000000 ample) (0, 0, 30, 9, 0, 1) (bigBytes 9 0x010000000000000102) []
+    × Fully (readSections noSignals true (bigBytes 30 0x435943000000000000000102007f45435900544149000000000000000000) ample) (0, 0, 30, 9, 0, 1) (bigBytes 9 0x010000000000000102) []
+unfolding opened
+flag = (refl, refl, refl, refl)
+
+-- "kind 5 a signed LEB128, reported as eight big-endian bytes": 127, -1, -128 and 2^63-1
+pub integers :
+    Gives (sections (lone 5) 33 0x43594300000000000000000001ff00007f45435900544149000000000000000000 ample) (0, 0, 33, 22, 8, 1) (bigBytes 8 0x000000000000007f)
+    × Gives (sections (lone 5) 32 0x435943000000000000000000017f007f45435900544149000000000000000000 ample) (0, 0, 32, 22, 8, 1) (bigBytes 8 0xffffffffffffffff)
+    × Gives (sections (lone 5) 33 0x43594300000000000000000001807f007f45435900544149000000000000000000 ample) (0, 0, 33, 22, 8, 1) (bigBytes 8 0xffffffffffffff80)
+    × Gives (sections (lone 5) 41 0x43594300000000000000000001ffffffffffffffffff00007f45435900544149000000000000000000 ample) (0, 0, 41, 22, 8, 1) (bigBytes 8 0x7fffffffffffffff)
+unfolding opened
+integers = (refl, refl, refl, refl)
+
+-- "Directory: an 8-byte head (four unchecked bytes, then a signed 32-bit count), count entries of a 4-byte id and a signed 32-bit position, EOD."; "contents are dropped"
+pub directories :
+    Fully (sections noSignals 36 0x444952006162636401000000ffffffff05000000454f4400544149000000000000000000 ample) (0, 0, 36, 0, 0, 0) [] []
+    × Fully (readSections noSignals true (bigBytes 36 0x444952006162636400000001ffffffff00000005454f4400544149000000000000000000) ample) (0, 0, 36, 0, 0, 0) [] []
+    × Fully (sections noSignals 44 0x44495200000000000200000000000000000000000000000000000000454f4400544149000000000000000000 ample) (0, 0, 44, 0, 0, 0) [] []
+unfolding opened
+directories = (refl, refl, refl)
+
+-- "zero or more is added to the time and another step begins": 0, 63, and 64 padded; "Negative ends the cycle": -64, and -65
+pub cycle-steps :
+    Fully (sections noSignals 38 0x4359430000000000000000000000003f00c08000004045435900544149000000000000000000 ample) (0, 0, 38, 36, 0, 4) (bigBytes 36 0x01000000000000000001000000000000000001000000000000003f01000000000000007f) []
+    × Fully (sections noSignals 31 0x43594300000000000000000000bf7f45435900544149000000000000000000 ample) (0, 0, 31, 9, 0, 1) (bigBytes 9 0x010000000000000000) []
+unfolding opened
+cycle-steps = (refl, refl)
+
+-- "1 time (8 bytes) opens a step; .. 4 step end (no body). Input ends only between steps; empty input is good."
+pub steps-outside :
+    Fully (changes noSignals 0 0 ample) (0, 0, 0, 0, 0, 0) [] []
+    × Fully (changes noSignals 20 0x0100000000000000000401ffffffffffffffff04 ample) (0, 0, 20, 18, 0, 2) (bigBytes 18 0x01000000000000000001ffffffffffffffff) []
+unfolding opened
+steps-outside = (refl, refl)
+
+-- "the first time is kept; each later one is compared with the last kept: an equal one is dropped and changes nothing else, not even skipping;
+-- a smaller one is dropped and starts skipping; a larger one is kept and ends it. Value and real events are dropped while skipping."
+pub time-rule :
+    Keeps (rule 88 0x0100000000000000050100000000000000040200000001000000000000000101000000000000000502000000010000000000000001010000000000000006020000000100000000000000010400000001ffffffffffffffff 1 500) (0, 0, 88, 44, 0, 2) (bigBytes 44 0x010000000000000005010000000000000006020000000100000000000000010400000001ffffffffffffffff)
+    × Keeps (rule 62 0x010000000000000005010000000000000004010000000000000004020000000100000000000000010100000000000000050400000001ffffffffffffffff 1 500) (0, 0, 62, 9, 0, 1) (bigBytes 9 0x010000000000000005)
+    × Keeps (rule 79 0x01000000000000000002000000010000000000000001010000000000000000030000000100000000000000010400000001ffffffffffffffff01ffffffffffffffff02000000010000000000000001 1 500) (0, 0, 79, 70, 0, 2) (bigBytes 70 0x01000000000000000002000000010000000000000001030000000100000000000000010400000001ffffffffffffffff01ffffffffffffffff02000000010000000000000001)
+    × Keeps (rule 110 0x01000000000000000501000000000000000702000000010000000000000001010000000000000006030000000100000000000000010400000001ffffffffffffffff0100000000000000070200000001000000000000000101000000000000000803000000010000000000000001 1 500) (0, 0, 110, 53, 0, 3) (bigBytes 53 0x0100000000000000050100000000000000070200000001000000000000000101000000000000000803000000010000000000000001)
+unfolding opened
+time-rule = (refl, refl, refl, refl)
+
+-- "Output past the reported bytes is zero.": all of the room for kept events, where one time is kept and where it does not fit
+pub kept-left :
+    (rule 9 0x010000000000000005 0 11 ≡ record { answer = record { number = 0; place = 0; read = 9; events = 9; values = 0; steps = 1 }; kept = bigBytes 11 0x0100000000000000050000 })
+    × (rule 9 0x010000000000000005 0 8 ≡ record { answer = record { number = 16; place = 9; read = 0; events = 0; values = 0; steps = 0 }; kept = replicate 8 0 })
+unfolding opened
+kept-left = (refl, refl)
