@@ -64,5 +64,3 @@ read-snapshot-body-spec =
     same-length-7
     same-length-8
     returns-2)
-
--- x
