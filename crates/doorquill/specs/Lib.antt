@@ -3,3 +3,5 @@ pub mod Rows
 pub mod Kept
 pub mod Unique
 pub mod Demands
+pub mod Reading
+pub mod Begin

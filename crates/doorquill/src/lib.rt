@@ -1,15 +1,22 @@
 // The public entries.
-use encoder::Applied;
+mod ends;
+mod kept;
+mod passed;
+
 use encoder::apply;
-use slices::clear_bytes;
-use tables::within_limit;
+use ends::refuse;
+use kept::end_kept;
+use kept::refuse_kept;
+use kept::within_limits;
+use passed::changes_passed;
+use passed::sections_passed;
+use tables::Check;
+use tables::checks;
 ghost use mathlib.Core.Path.{_≡_};
-ghost use Prim.Native.Nat.{_≤_};
-ghost use mathlib.Core.Bool.{_&&_};
-ghost use lib.ListN.{length, take};
-ghost use Rattle.tables.specs.Checks.{withinLimit};
-ghost use Rattle.doorquill.specs.Entries.{answer, refused, padded, LeftKept, applyTimeRule};
-ghost use Rattle.doorquill.specs.Kept.{Held, ended, leavesKept};
+ghost use lib.ListN.{length};
+ghost use Rattle.tables.specs.Lists.{lists};
+ghost use Rattle.doorquill.specs.Entries.{readSections, readChanges, LeftKept, applyTimeRule};
+ghost use Rattle.doorquill.specs.Reading.{leftOf, lentOf};
 
 // Document 01's six numbers.
 #[repr(C)]
@@ -22,72 +29,106 @@ pub struct Answer {
     pub steps: u64,
 }
 
-fn widen(x: usize) -> u64
-    ensures { λ r. ⌜ r ≡ x ⌝ }
+// Section reading.
+#[no_mangle]
+pub extern "C" fn doorquill_read_sections(
+    kinds: &[u8],
+    refs: &[u32],
+    vecs: &[u32],
+    mins: &[u32],
+    maxs: &[u32],
+    states: &[u8],
+    vec_refs: &[u32],
+    big_endian: bool,
+    input: &[u8],
+    events: &mut [u8],
+    values: &mut [u8],
+    room: &mut [u8],
+    list: &mut [u32],
+) -> Answer
+    ensures { λ r. ⌜ leftOf r (now (events .exit)) (now (values .exit)) (now (room .exit)) (now (list .exit)) ≡ readSections (lists (now (kinds .entry)) (now (refs .entry)) (now (vecs .entry)) (now (mins .entry)) (now (maxs .entry)) (now (states .entry)) (now («vec_refs» .entry))) «big_endian» (now (input .entry)) (lentOf (now (events .entry)) (now (values .entry)) (now (room .entry)) (now (list .entry))) ⌝ }
 {
-    x as u64
-}
-
-// "A refusal gives a number and a place with all other fields zero".
-fn refused(number: u64, place: u64) -> Answer
-    ensures { λ r. ⌜ r ≡ answer (refused number place) ⌝ }
-{
-    Answer {
-        number,
-        place,
-        read: 0,
-        events: 0,
-        values: 0,
-        steps: 0,
+    match checks(
+        kinds,
+        refs,
+        vecs,
+        mins,
+        maxs,
+        states,
+        vec_refs,
+        input.len(),
+        events.len(),
+        values.len(),
+        room.len(),
+        list.len(),
+    ) {
+        Check::Passed => sections_passed(
+            kinds,
+            refs,
+            vecs,
+            mins,
+            maxs,
+            states,
+            vec_refs,
+            big_endian,
+            input,
+            events,
+            values,
+            room,
+            list,
+        ),
+        Check::Refused(number, place) => refuse(events, values, room, list, number, place),
     }
 }
 
-// "Output past the reported bytes is zero."
-fn clear_past(out: &mut [u8], used: usize)
-    requires { ⌜ used ≤ length (now out) ⌝ }
-    ensures { λ _. ⌜ now (out .exit) ≡ padded (length (now (out .entry))) (take used (now (out .entry))) ⌝ }
+// Change reading.
+#[no_mangle]
+pub extern "C" fn doorquill_read_changes(
+    kinds: &[u8],
+    refs: &[u32],
+    vecs: &[u32],
+    mins: &[u32],
+    maxs: &[u32],
+    states: &[u8],
+    vec_refs: &[u32],
+    input: &[u8],
+    events: &mut [u8],
+    values: &mut [u8],
+    room: &mut [u8],
+    list: &mut [u32],
+) -> Answer
+    ensures { λ r. ⌜ leftOf r (now (events .exit)) (now (values .exit)) (now (room .exit)) (now (list .exit)) ≡ readChanges (lists (now (kinds .entry)) (now (refs .entry)) (now (vecs .entry)) (now (mins .entry)) (now (maxs .entry)) (now (states .entry)) (now («vec_refs» .entry))) (now (input .entry)) (lentOf (now (events .entry)) (now (values .entry)) (now (room .entry)) (now (list .entry))) ⌝ }
 {
-    clear_bytes(out, used, out.len() - used);
-}
-
-// A refusal of the time rule.
-fn refuse_kept(kept: &mut [u8], number: u64, place: u64) -> Answer
-    ensures { λ r. ⌜ _≡_ {A = LeftKept} (record { answer = r; kept = now (kept .exit) }) (leavesKept (length (now (kept .entry))) (refused number place)) ⌝ }
-{
-    clear_past(kept, 0);
-    refused(number, place)
-}
-
-// The end of the time rule.
-fn end_kept(kept: &mut [u8], a: Applied) -> Answer
-    requires { ⌜ Held (now kept) a ⌝ }
-    ensures { λ r. ⌜ _≡_ {A = LeftKept} (record { answer = r; kept = now (kept .exit) }) (leavesKept (length (now (kept .entry))) (ended (now (kept .entry)) a)) ⌝ }
-{
-    match a {
-        Applied::Done {
-            read,
-            kept: n,
-            steps,
-        } => {
-            clear_past(kept, n);
-            Answer {
-                number: 0,
-                place: 0,
-                read: widen(read),
-                events: widen(n),
-                values: 0,
-                steps,
-            }
-        }
-        Applied::Refused(number, place) => refuse_kept(kept, number, widen(place)),
+    match checks(
+        kinds,
+        refs,
+        vecs,
+        mins,
+        maxs,
+        states,
+        vec_refs,
+        input.len(),
+        events.len(),
+        values.len(),
+        room.len(),
+        list.len(),
+    ) {
+        Check::Passed => changes_passed(
+            kinds,
+            refs,
+            vecs,
+            mins,
+            maxs,
+            states,
+            vec_refs,
+            input,
+            events,
+            values,
+            room,
+            list,
+        ),
+        Check::Refused(number, place) => refuse(events, values, room, list, number, place),
     }
-}
-
-// Check 1 of the time rule.
-fn within_limits(events: usize, values: usize, kept: usize) -> bool
-    ensures { λ r. ⌜ r ≡ (withinLimit events && withinLimit values && withinLimit kept) ⌝ }
-{
-    within_limit(events) & within_limit(values) & within_limit(kept)
 }
 
 // The time rule over an event stream and its value bytes: what is kept of it.

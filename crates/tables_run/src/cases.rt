@@ -115,7 +115,7 @@ fn ample(label: &[u8], signals: &[u8], vectors: &[u8]) {
     within(label, signals, vectors, 1000, 1000);
 }
 
-pub fn limits() {
+pub(crate) fn limits() {
     let most = 1073741823;
     lent(b"at the limits", 16777215, most, most, most, most);
     lent(b"input", 16777216, most, most, most, most);
@@ -125,7 +125,7 @@ pub fn limits() {
     lent(b"list", 16777215, most, most, most, most + 1);
 }
 
-pub fn lengths() {
+pub(crate) fn lengths() {
     lists(
         b"lists of 0 1 1 0 0 0 0",
         &[],
@@ -218,7 +218,7 @@ pub fn lengths() {
     );
 }
 
-pub fn ranges() {
+pub(crate) fn ranges() {
     ample(
         b"two bits",
         b"\x03\x05\x01\x03\x05\x01",
@@ -242,7 +242,7 @@ pub fn ranges() {
     );
 }
 
-pub fn states() {
+pub(crate) fn states() {
     ample(b"a range without signals", b"", b"\x01\x01\x01\x05");
     ample(
         b"nine-state",
@@ -257,7 +257,7 @@ pub fn states() {
     );
 }
 
-pub fn first_vectors() {
+pub(crate) fn first_vectors() {
     ample(
         b"vectors 2 and 3 bad",
         b"\x03\x05\x01\x03\x05\x01",
@@ -270,20 +270,20 @@ pub fn first_vectors() {
     );
 }
 
-pub fn kinds() {
+pub(crate) fn kinds() {
     ample(b"kind 6", b"\x06\x01\x00", b"");
     ample(b"kind 7", b"\x07\x01\x00", b"");
     ample(b"reference 0", b"\x02\x00\x00", b"");
 }
 
-pub fn named() {
+pub(crate) fn named() {
     ample(b"kind 3 names none", b"\x03\x05\x00", b"");
     ample(b"kind 1 names none", b"\x01\x05\x00", b"");
     ample(b"vector 2 of 1", b"\x03\x05\x02", b"\x01\x01\x01\x05");
     ample(b"vector 4294967295", b"\x03\x05\xff", b"\x01\x01\x01\x05");
 }
 
-pub fn ranges_held() {
+pub(crate) fn ranges_held() {
     ample(
         b"above the range",
         b"\x03\x05\x01\x03\x05\x01",
@@ -296,7 +296,7 @@ pub fn ranges_held() {
     );
 }
 
-pub fn suited() {
+pub(crate) fn suited() {
     ample(
         b"kind 1 in a two-state vector",
         b"\x01\x05\x01",
@@ -310,7 +310,7 @@ pub fn suited() {
     ample(b"another reference", b"\x03\x06\x01", b"\x01\x01\x01\x05");
 }
 
-pub fn alone() {
+pub(crate) fn alone() {
     ample(
         b"kind 0 names a vector",
         b"\x00\x05\x01",
@@ -338,7 +338,7 @@ pub fn alone() {
     );
 }
 
-pub fn first_signals() {
+pub(crate) fn first_signals() {
     ample(
         b"ids 2 and 3 bad",
         b"\x02\x01\x00\x02\x00\x00\x07\x01\x00",
@@ -351,7 +351,7 @@ pub fn first_signals() {
     );
 }
 
-pub fn names() {
+pub(crate) fn names() {
     ample(
         b"a stranger in a range",
         b"\x03\x05\x01\x02\x01\x00\x03\x05\x01",
@@ -374,7 +374,7 @@ pub fn names() {
     );
 }
 
-pub fn rooms() {
+pub(crate) fn rooms() {
     within(
         b"5 before 6",
         b"\x03\x05\x01\x02\x01\x00\x03\x05\x01",
@@ -405,7 +405,7 @@ pub fn rooms() {
     );
 }
 
-pub fn more_rooms() {
+pub(crate) fn more_rooms() {
     within(b"no vectors, no room", b"\x02\x01\x00", b"", 0, 0);
     within(
         b"three nine-state bits in 5 bytes",
@@ -423,7 +423,7 @@ pub fn more_rooms() {
     );
 }
 
-pub fn many_rooms() {
+pub(crate) fn many_rooms() {
     within(
         b"nine vectors in 22 bytes, 9 numbers",
         b"\x03\x01\x01\x03\x01\x02\x03\x01\x03\x03\x01\x04\x03\x01\x05\x03\x01\x06\x03\x01\x07\x03\x01\x08\x03\x01\x09",

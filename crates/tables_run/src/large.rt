@@ -24,7 +24,7 @@ fn alone(label: &[u8], kinds: &[u8], refs: &[u32], vecs: &[u32], n: usize) {
     );
 }
 
-pub fn signals() {
+pub(crate) fn signals() {
     let kinds = [2u8; 65536];
     let refs = [1u32; 65536];
     let vecs = [0u32; 65536];
@@ -277,7 +277,7 @@ fn with_vectors(
     named_vectors(kinds, refs, vecs, mins, maxs, states, vec_refs);
 }
 
-pub fn vectors() {
+pub(crate) fn vectors() {
     let mut kinds = [2u8; 65535];
     let mut refs = [1u32; 65535];
     let mut vecs = [0u32; 65535];
@@ -329,7 +329,7 @@ fn with_bits(kinds: &mut [u8], refs: &[u32], vecs: &mut [u32]) {
     one_vector(b"the first id a stranger too", kinds, refs, vecs, 40962);
 }
 
-pub fn bits() {
+pub(crate) fn bits() {
     let mut kinds = [1u8; 65535];
     let refs = [1u32; 65535];
     let mut vecs = [1u32; 65535];

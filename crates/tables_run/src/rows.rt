@@ -2,7 +2,7 @@
 ghost use Prim.Native.Nat.{_≤_};
 
 // Nine bytes of `rows`, `step` apart from `at` on; zeros where there are fewer.
-pub fn bytes(rows: &[u8], at: usize, step: usize) -> [u8; 9]
+pub(crate) fn bytes(rows: &[u8], at: usize, step: usize) -> [u8; 9]
     requires { ⌜ (at ≤ 4) × (step ≤ 4) ⌝ }
 {
     let mut column = [0u8; 9];
@@ -24,7 +24,7 @@ fn number(x: u8) -> u32 {
 }
 
 // The same as numbers, with 255 for the largest.
-pub fn numbers(rows: &[u8], at: usize, step: usize) -> [u32; 9]
+pub(crate) fn numbers(rows: &[u8], at: usize, step: usize) -> [u32; 9]
     requires { ⌜ (at ≤ 4) × (step ≤ 4) ⌝ }
 {
     let bytes = bytes(rows, at, step);
@@ -37,14 +37,14 @@ pub fn numbers(rows: &[u8], at: usize, step: usize) -> [u32; 9]
     column
 }
 
-pub fn first_bytes(column: &[u8], n: usize) -> &[u8] {
+pub(crate) fn first_bytes(column: &[u8], n: usize) -> &[u8] {
     if n <= column.len() {
         return &column[..n];
     }
     column
 }
 
-pub fn first_numbers(column: &[u32], n: usize) -> &[u32] {
+pub(crate) fn first_numbers(column: &[u32], n: usize) -> &[u32] {
     if n <= column.len() {
         return &column[..n];
     }

@@ -12,7 +12,7 @@ fn line(label: &[u8], number: u64, place: u64) {
 }
 
 // An answer: 0 0 where the checks passed.
-pub fn show(label: &[u8], answer: Check) {
+pub(crate) fn show(label: &[u8], answer: Check) {
     match answer {
         Check::Passed => line(label, 0, 0),
         Check::Refused(number, place) => line(label, number, place),

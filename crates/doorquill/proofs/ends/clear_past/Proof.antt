@@ -1,8 +1,8 @@
--- `doorquill::clear_past` meets its contract: each need follows from `past-laws`. Assumes nothing.
+-- `doorquill::ends::clear_past` meets its contract: each need follows from `past-laws`. Assumes nothing.
 use Rattle.doorquill.specs.Kept.{past-laws}
 use borrow.Author.Needs.{needs}
-use Rattle.doorquill.proofs.clear_past.Statement.{statement}
-use Rattle.doorquill.proofs.clear_past.Tie as tie
+use Rattle.doorquill.proofs.ends.clear_past.Statement.{statement}
+use Rattle.doorquill.proofs.ends.clear_past.Tie as tie
 
 sub-clear-bytes : tie.Need-sub-clear-bytes
 sub-clear-bytes c = search (past-laws, needs)

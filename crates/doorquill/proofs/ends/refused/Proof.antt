@@ -1,8 +1,8 @@
--- `doorquill::refused` meets its contract: each need follows from `past-laws`. Assumes nothing.
+-- `doorquill::ends::refused` meets its contract: each need follows from `past-laws`. Assumes nothing.
 use borrow.Author.Needs.{needs}
 use Rattle.doorquill.specs.Kept.{past-laws}
-use Rattle.doorquill.proofs.refused.Statement.{statement}
-use Rattle.doorquill.proofs.refused.Tie as tie
+use Rattle.doorquill.proofs.ends.refused.Statement.{statement}
+use Rattle.doorquill.proofs.ends.refused.Tie as tie
 
 returns : tie.Need-returns
 returns c = search (past-laws, needs)

@@ -1,8 +1,8 @@
--- `doorquill::end_kept` meets its contract: each need follows from `end-laws`. Assumes nothing.
+-- `doorquill::kept::end_kept` meets its contract: each need follows from `end-laws`. Assumes nothing.
 use Rattle.doorquill.specs.Kept.{end-laws}
 use borrow.Author.Needs.{needs}
-use Rattle.doorquill.proofs.end_kept.Statement.{statement}
-use Rattle.doorquill.proofs.end_kept.Tie as tie
+use Rattle.doorquill.proofs.kept.end_kept.Statement.{statement}
+use Rattle.doorquill.proofs.kept.end_kept.Tie as tie
 
 enum-known-a : tie.Need-enum-known-a
 enum-known-a c = search (end-laws, needs)

@@ -1,8 +1,8 @@
--- `doorquill::within_limits` meets its contract: each need follows from `past-laws`. Assumes nothing.
+-- `doorquill::kept::within_limits` meets its contract: each need follows from `past-laws`. Assumes nothing.
 use Rattle.doorquill.specs.Kept.{past-laws}
 use borrow.Author.Needs.{needs}
-use Rattle.doorquill.proofs.within_limits.Statement.{statement}
-use Rattle.doorquill.proofs.within_limits.Tie as tie
+use Rattle.doorquill.proofs.kept.within_limits.Statement.{statement}
+use Rattle.doorquill.proofs.kept.within_limits.Tie as tie
 
 within-limit-requires : tie.Need-within-limit-requires
 within-limit-requires c κs = search (past-laws, needs)

@@ -1,8 +1,8 @@
--- `doorquill::refuse_kept` meets its contract: each need follows from `refuse-laws`. Assumes nothing.
+-- `doorquill::kept::refuse_kept` meets its contract: each need follows from `refuse-laws`. Assumes nothing.
 use Rattle.doorquill.specs.Kept.{refuse-laws}
 use borrow.Author.Needs.{needs}
-use Rattle.doorquill.proofs.refuse_kept.Statement.{statement}
-use Rattle.doorquill.proofs.refuse_kept.Tie as tie
+use Rattle.doorquill.proofs.kept.refuse_kept.Statement.{statement}
+use Rattle.doorquill.proofs.kept.refuse_kept.Tie as tie
 
 clear-past-requires : tie.Need-clear-past-requires
 clear-past-requires c κs = search (refuse-laws, needs)

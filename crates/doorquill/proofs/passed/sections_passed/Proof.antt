@@ -1,0 +1,38 @@
+-- `doorquill::passed::sections_passed` meets its contract: each need follows from `passed-laws`. Assumes nothing.
+use Rattle.doorquill.specs.Begin.{passed-laws, passed-finish}
+use borrow.Author.Needs.{needs}
+use Rattle.doorquill.proofs.passed.sections_passed.Statement.{statement}
+use Rattle.doorquill.proofs.passed.sections_passed.Tie as tie
+
+sections-part-requires : tie.Need-sections-part-requires
+sections-part-requires c κs = search (passed-laws, needs)
+
+finish-requires : tie.Need-finish-requires
+finish-requires c κs = passed-finish (c .before .before .before .before .before .before .before .before .before .before .before .before .sections-part .ensures) _ _ _ _ _ (c .before .before .before .before .before .before .before .before .before .before .before .before .before .before .before .before .before .before .before .before .before .before .before .before .before .before .before .before .before .pre)
+
+same-length : tie.Need-same-length
+same-length c = search (passed-laws, needs)
+
+same-length-2 : tie.Need-same-length-2
+same-length-2 c = search (passed-laws, needs)
+
+same-length-3 : tie.Need-same-length-3
+same-length-3 c = search (passed-laws, needs)
+
+same-length-4 : tie.Need-same-length-4
+same-length-4 c = search (passed-laws, needs)
+
+returns : tie.Need-returns
+returns c = search (passed-laws, needs)
+
+pub sections-passed-spec : {M : Type 1} → statement M
+sections-passed-spec =
+    tie.close
+    (tie.spec
+    sections-part-requires
+    finish-requires
+    same-length
+    same-length-2
+    same-length-3
+    same-length-4
+    returns)
