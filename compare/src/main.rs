@@ -1,6 +1,7 @@
 //! The port of the GHW section reader beside the crate's own Rust and beside a plain reading of document 01.
 mod bench;
 mod cases;
+mod gathering;
 mod gen;
 mod host;
 mod judge;

@@ -1,12 +1,14 @@
 //! The fixed list: a few thousand cases with their answers, for a program that has no Rust at hand.
 //!
-//! The list is a run of frames and ends with an empty one. All numbers are big-endian. A frame is the length of its rest (2 bytes),
-//! 21 numbers of 2 bytes, and bytes end to end. The numbers: entry (1 sections, 2 changes, 3 time rule), flag; lengths of the lists
-//! kinds, refs, vecs, mins, maxs, states, vec_refs; lengths of the input and of the time rule's value input; rooms for event bytes,
-//! value bytes, working bytes, working numbers; and the answer's number, place, read, events, values, steps. The bytes: kinds,
-//! refs, vecs, mins, maxs, states, vec_refs (kinds and states a byte each, the others 4 bytes), the input, the value input, then the event
-//! bytes and value bytes that the outputs hold. Past these the outputs are zero, and all working room is.
+//! The list is a run of frames and ends with an empty one. All numbers are big-endian. A frame is the length of its rest (2 bytes) and
+//! the rest. Where that begins with a 2-byte 0 it is a heading, and its other bytes are the name of the cases after it. Otherwise it is a
+//! case: 21 numbers of 2 bytes, and bytes end to end. The numbers: entry (1 sections, 2 changes, 3 time rule), flag; lengths of the lists
+//! refs, vecs, mins, maxs, vec_refs, kinds, states; lengths of the input, of the time rule's value input, and of the event bytes and value
+//! bytes that the answer reports; rooms for event bytes, value bytes, working bytes, working numbers; and the answer's number, place, read
+//! and steps. The bytes: the lists, the input, the value input, the event bytes and value bytes, each in the order of its length (kinds and
+//! states a byte each, the other lists 4 bytes). Past the reported bytes the outputs are zero, and all working room is.
 use crate::cases::{parse, Case, Entry, AMPLE};
+use crate::gathering;
 use crate::gen::{self, Rng};
 use crate::host::Host;
 use crate::judge::{judge, plain_outcome};
@@ -14,8 +16,10 @@ use crate::plain::{Outcome, Rooms, Tables};
 use crate::runs::{random, worked_bytes, worked_tables};
 use std::collections::{BTreeMap, BTreeSet};
 
-/// The largest of each kind in the list: signals, vectors, input, value input, events, values, working bytes.
-const MOST: [usize; 7] = [32, 6, 256, 40, 512, 128, 64];
+/// The largest of each kind that the program has room for: signals, vectors, input, value input, events, values, working bytes.
+const MOST: [usize; 7] = [140, 10, 2560, 40, 2048, 4096, 128];
+/// The same for generated cases, which are kept small.
+const SMALL: [usize; 7] = [32, 6, 256, 40, 512, 128, 64];
 
 fn sizes(case: &Case) -> [usize; 7] {
     let t = &case.tables;
@@ -24,8 +28,8 @@ fn sizes(case: &Case) -> [usize; 7] {
     [n, v, case.input.len(), case.values.len(), case.rooms.events, case.rooms.values, case.rooms.room]
 }
 
-fn small(case: &Case) -> bool {
-    case.entry != Entry::Lent && sizes(case).iter().zip(MOST).all(|(s, most)| *s <= most) && case.rooms.list <= MOST[1]
+fn within(case: &Case, most: [usize; 7]) -> bool {
+    case.entry != Entry::Lent && sizes(case).iter().zip(most).all(|(s, most)| *s <= most) && case.rooms.list <= most[1]
 }
 
 fn frame(case: &Case, o: &Outcome) -> Vec<u8> {
@@ -40,15 +44,17 @@ fn frame(case: &Case, o: &Outcome) -> Vec<u8> {
     let numbers = [
         entry,
         usize::from(case.big),
-        t.kinds.len(),
         t.refs.len(),
         t.vecs.len(),
         t.mins.len(),
         t.maxs.len(),
-        t.states.len(),
         t.vec_refs.len(),
+        t.kinds.len(),
+        t.states.len(),
         case.input.len(),
         case.values.len(),
+        a.events as usize,
+        a.values as usize,
         r.events,
         r.values,
         r.room,
@@ -56,29 +62,35 @@ fn frame(case: &Case, o: &Outcome) -> Vec<u8> {
         a.number as usize,
         a.place as usize,
         a.read as usize,
-        a.events as usize,
-        a.values as usize,
         a.steps as usize,
     ];
     let mut out: Vec<u8> = numbers.iter().flat_map(|n| u16::try_from(*n).expect("small").to_be_bytes()).collect();
     let list = |l: &[u32]| l.iter().flat_map(|x| x.to_be_bytes()).collect::<Vec<u8>>();
     let parts = [
-        t.kinds.clone(),
         list(&t.refs),
         list(&t.vecs),
         list(&t.mins),
         list(&t.maxs),
-        t.states.clone(),
         list(&t.vec_refs),
+        t.kinds.clone(),
+        t.states.clone(),
         case.input.clone(),
         case.values.clone(),
         o.events.clone(),
         o.values.clone(),
     ];
     out.extend(parts.concat());
-    let mut frame = u16::try_from(out.len()).expect("small").to_be_bytes().to_vec();
-    frame.extend(out);
+    framed(&out)
+}
+
+fn framed(rest: &[u8]) -> Vec<u8> {
+    let mut frame = u16::try_from(rest.len()).expect("small").to_be_bytes().to_vec();
+    frame.extend(rest);
     frame
+}
+
+fn heading(name: &str) -> Vec<u8> {
+    framed(&[&[0, 0], name.as_bytes()].concat())
 }
 
 /// Rooms of a case: just enough, a little more, or one short of something.
@@ -101,11 +113,11 @@ fn roomed(rng: &mut Rng, mut case: Case) -> Case {
         events: made.events.len() + more,
         values: made.values.len() + more,
         room: room + more,
-        list: (list + more).min(MOST[1]),
+        list: (list + more).min(SMALL[1]),
         flat: 0,
     };
     if case.entry == Entry::Events {
-        r.values = 0;
+        r = Rooms { values: 0, room: 0, list: 0, ..r };
     } else if more == 0 {
         match rng.below(14) {
             0 => r.values = r.values.saturating_sub(1),
@@ -121,16 +133,16 @@ fn roomed(rng: &mut Rng, mut case: Case) -> Case {
     case
 }
 
-pub fn list() -> Vec<Case> {
+/// Document 01's chosen readings that are no listing and small enough.
+fn readings() -> Vec<Case> {
     let mut out: Vec<Case> = vec![];
-    // Document 01's chosen readings and its worked example, in both flags.
     for named in parse(include_str!("../readings.txt")).expect("readings.txt is well formed") {
         let mut case = named.case;
         if named.listing {
             continue;
         }
         if case.rooms.room == AMPLE.room {
-            case.rooms.room = MOST[6];
+            case.rooms.room = 64;
             case.rooms.list = MOST[1];
         }
         case.rooms.events = if case.rooms.events == AMPLE.events { 128 } else { case.rooms.events };
@@ -138,10 +150,18 @@ pub fn list() -> Vec<Case> {
         if case.entry == Entry::Events {
             case.rooms = Rooms { values: 0, room: 0, list: 0, ..case.rooms };
         }
-        if small(&case) {
+        if within(&case, MOST) {
             out.push(case);
+        } else {
+            println!("too large: {}", named.name);
         }
     }
+    out
+}
+
+/// Document 01's worked example in both flags, and generated cases.
+fn oracle() -> Vec<Case> {
+    let mut out: Vec<Case> = vec![];
     let mut rng = Rng::new(20_000);
     for big in [false, true] {
         let mut t = worked_tables();
@@ -150,7 +170,7 @@ pub fn list() -> Vec<Case> {
         t.vecs.pop();
         out.push(roomed(&mut rng, Case { big, ..Case::new(Entry::Sections, &t, worked_bytes(big)) }));
     }
-    // Generated ones: so many for each entry, flag and answer.
+    // So many for each entry, flag and answer.
     let mut seen: BTreeSet<String> = out.iter().map(Case::text).collect();
     let mut counts: BTreeMap<(Entry, bool, u64), usize> = BTreeMap::new();
     for turn in 0..400_000 {
@@ -162,11 +182,11 @@ pub fn list() -> Vec<Case> {
             case.tables = gen::bad_tables(&mut rng, &t);
         }
         let case = roomed(&mut rng, case);
-        if !small(&case) {
+        if !within(&case, SMALL) {
             continue;
         }
         let number = plain_outcome(&case).answer.number;
-        let most = if number == 0 { 300 } else { 40 };
+        let most = if number == 0 { 200 } else { 28 };
         let count = counts.entry((entry, case.big, number)).or_default();
         if *count < most && seen.insert(case.text()) {
             *count += 1;
@@ -176,41 +196,80 @@ pub fn list() -> Vec<Case> {
     out
 }
 
+/// What a list has: counts by entry and answer, and the largest sizes.
+#[derive(Default)]
+struct Summary {
+    counts: BTreeMap<(Entry, u64), usize>,
+    largest: [usize; 7],
+    kinds: [usize; 7],
+}
+
+impl Summary {
+    fn add(&mut self, case: &Case, number: u64) {
+        *self.counts.entry((case.entry, number)).or_default() += 1;
+        if number == 0 {
+            (0..7).filter(|k| case.tables.kinds.contains(&(*k as u8))).for_each(|k| self.kinds[k] += 1);
+        }
+        self.largest.iter_mut().zip(sizes(case)).for_each(|(l, s)| *l = (*l).max(s));
+    }
+
+    fn show(&self) {
+        println!("  accepted cases with a signal of kind 0 to 6: {:?}", self.kinds);
+        let l = self.largest;
+        println!(
+            "  largest: signals {}, vectors {}, input {}, value input {}, event room {}, value room {}, working bytes {}",
+            l[0], l[1], l[2], l[3], l[4], l[5], l[6]
+        );
+    }
+
+    /// What the program prints of a list that is as stored.
+    fn text(&self, name: &str) -> String {
+        let count = |entry, number| self.counts.get(&(entry, number)).copied().unwrap_or(0);
+        let mut out = format!("{}\n", name);
+        for number in 0..=20 {
+            let [s, c, e] = [Entry::Sections, Entry::Changes, Entry::Events].map(|entry| count(entry, number));
+            if s + c + e > 0 {
+                let answer = if number == 0 { "accepted".to_string() } else { format!("refused {}", number) };
+                out += &format!("{}: sections {}, changes {}, time rule {}\n", answer, s, c, e);
+            }
+        }
+        let all: usize = self.counts.values().sum();
+        out + &format!("{} cases: {} as stored, 0 not\n", all, all)
+    }
+}
+
+/// The list, and beside it what the program prints.
 pub fn write(file: &str) -> bool {
     let mut host = Host::default();
     let mut bytes = vec![];
-    let mut counts: BTreeMap<(Entry, u64), usize> = BTreeMap::new();
-    let mut largest = [0; 7];
-    let mut kinds = [0; 7];
-    let cases = list();
-    for case in &cases {
-        // Only what every side agrees on goes into the list.
-        if let Some(text) = judge(case, &mut host).difference {
-            println!("DIFFERENCE\n{}\n{}", text, case.text());
-            return false;
+    let mut printed = String::new();
+    for (name, cases) in [("gathering", gathering::list()), ("readings", readings()), ("oracle", oracle())] {
+        let from = bytes.len();
+        let mut summary = Summary::default();
+        bytes.extend(heading(name));
+        for case in &cases {
+            // Only what every side agrees on goes into the list.
+            if let Some(text) = judge(case, &mut host).difference {
+                println!("DIFFERENCE\n{}\n{}", text, case.text());
+                return false;
+            }
+            assert!(within(case, MOST), "the program has no room for\n{}", case.text());
+            let o = plain_outcome(case);
+            summary.add(case, o.answer.number);
+            bytes.extend(frame(case, &o));
         }
-        let o = plain_outcome(case);
-        *counts.entry((case.entry, o.answer.number)).or_default() += 1;
-        if o.answer.number == 0 {
-            (0..7).filter(|k| case.tables.kinds.contains(&(*k as u8))).for_each(|k| kinds[k] += 1);
-        }
-        largest.iter_mut().zip(sizes(case)).for_each(|(l, s)| *l = (*l).max(s));
-        bytes.extend(frame(case, &o));
+        let text = summary.text(name);
+        print!("{}", text);
+        println!("  {} bytes", bytes.len() - from);
+        summary.show();
+        printed += &text;
     }
     bytes.extend([0, 0]);
-    if let Err(e) = std::fs::write(file, &bytes) {
+    if let Err(e) = std::fs::write(file, &bytes).and_then(|()| std::fs::write(format!("{}.printed", file), printed)) {
         println!("{}: {}", file, e);
         return false;
     }
-    println!("{} cases, {} bytes", cases.len(), bytes.len());
-    for ((entry, number), count) in counts {
-        println!("  {} {}: {}", entry.name(), number, count);
-    }
-    println!("accepted cases with a signal of kind 0 to 6: {:?}", kinds);
-    println!(
-        "largest: signals {}, vectors {}, input {}, value input {}, event room {}, value room {}, working bytes {}",
-        largest[0], largest[1], largest[2], largest[3], largest[4], largest[5], largest[6]
-    );
+    println!("{} bytes", bytes.len());
     true
 }
 
@@ -225,18 +284,18 @@ fn unframe(frame: &[u8]) -> (Case, [u64; 6], Vec<u8>, Vec<u8>) {
     let words = |b: Vec<u8>| b.chunks(4).map(|c| u32::from_be_bytes([c[0], c[1], c[2], c[3]])).collect::<Vec<u32>>();
     let entry = [Entry::Sections, Entry::Changes, Entry::Events][number(0) - 1];
     let tables = Tables {
-        kinds: take(number(2)),
-        refs: words(take(4 * number(3))),
-        vecs: words(take(4 * number(4))),
-        mins: words(take(4 * number(5))),
-        maxs: words(take(4 * number(6))),
-        states: take(number(7)),
-        vec_refs: words(take(4 * number(8))),
+        refs: words(take(4 * number(2))),
+        vecs: words(take(4 * number(3))),
+        mins: words(take(4 * number(4))),
+        maxs: words(take(4 * number(5))),
+        vec_refs: words(take(4 * number(6))),
+        kinds: take(number(7)),
+        states: take(number(8)),
     };
-    let rooms = Rooms { events: number(11), values: number(12), room: number(13), list: number(14), flat: 0 };
+    let rooms = Rooms { events: number(13), values: number(14), room: number(15), list: number(16), flat: 0 };
     let case = Case { entry, tables, big: number(1) == 1, input: take(number(9)), values: take(number(10)), rooms };
-    let answer = [15, 16, 17, 18, 19, 20].map(|i| number(i) as u64);
-    let (events, values) = (take(number(18)), take(number(19)));
+    let answer = [17, 18, 19, 11, 12, 20].map(|i| number(i) as u64);
+    let (events, values) = (take(number(11)), take(number(12)));
     assert_eq!(at, frame.len());
     (case, answer, events, values)
 }
@@ -258,6 +317,10 @@ pub fn replay(file: &str) -> bool {
         if length == 0 {
             println!("{} cases replayed, no difference", count);
             return at == bytes.len();
+        }
+        if bytes[at..at + 2] == [0, 0] {
+            at += length;
+            continue;
         }
         let (case, answer, events, values) = unframe(&bytes[at..at + length]);
         let o = plain_outcome(&case);
