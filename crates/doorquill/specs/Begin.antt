@@ -1,6 +1,6 @@
 -- From tables that passed their checks to the entries' promises: what a reading asks at its beginning, and what it leaves at its end.
 -- Assumes nothing.
-use mathlib.Core.Path.{_≡_, refl, sym, ap, subst, _∙_}
+use mathlib.Core.Path.{_≡_, sym, _∙_}
 use Prim.Native.Nat.{ℕ, _≤_}
 use mathlib.Core.Bool.{Bool}
 use mathlib.Core.List.{List}
@@ -24,7 +24,7 @@ use Rattle.gather.specs.declared.Gathered.{Gathered}
 use Rattle.gather.specs.declared.Part.{Part}
 use Rattle.gather.specs.declared.Part.the-variants as part
 use Rattle.doorquill.specs.Entries.{refused, outcome, checked, reads, Left, Lent, leaves, readSections, readChanges}
-use Rattle.doorquill.specs.Reading.{lentOf, Used, Ready, endedAt, Finishes, Finish, Ended}
+use Rattle.doorquill.specs.Reading.{lentOf, Ready, endedAt, Finishes, Finish, Ended}
 
 module _ (t : Lists) (input : ℕ) (events values : List ℕ) (n k : ℕ) (e : checks t input (length events) (length values) n k ≡ Passed) where
   pub start-shapes : Shapes (t .mins) (t .maxs) (t .states)

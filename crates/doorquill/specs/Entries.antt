@@ -8,7 +8,6 @@ use Rattle.tables.specs.Lists.{Lists}
 use Rattle.tables.specs.Checks.{checks, withinLimit}
 use Rattle.tables.specs.declared.Check.{Check}
 use Rattle.tables.specs.declared.Check.the-variants.{Passed, Refused}
-use Rattle.records.specs.Out.{Rooms, Out}
 use Rattle.gather.specs.Run.{Scan, Went, went, out, runAll}
 use Rattle.signals.specs.Sections.{scanSections}
 use Rattle.changes.specs.Changes.{scanChanges}

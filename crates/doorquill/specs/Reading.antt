@@ -1,6 +1,6 @@
 -- What the functions inside the two reading entries leave, and what their proofs search.
 -- Assumes nothing.
-use mathlib.Core.Path.{_≡_, refl, sym, ap, subst, _∙_}
+use mathlib.Core.Path.{_≡_, subst, _∙_}
 use Prim.Native.Nat.{ℕ, zero, _+_, _≤_}
 use mathlib.Core.List.{List}
 use native.Mathlib.Omega.{arith}

@@ -1,13 +1,13 @@
 -- The beginning: what tables that passed their checks and zeroed working buffers give. The end: what the memory then says.
 -- Assumes nothing.
-use mathlib.Core.Path.{_≡_, refl, sym, ap, _∙_}
+use mathlib.Core.Path.{_≡_, refl, sym, _∙_}
 use Prim.Native.Nat.{ℕ, zero, suc, _+_, _<_, _≤_}
 use mathlib.Core.List.{List, []}
 use mathlib.Core.Logic.{⊎-elim}
 use native.Mathlib.Nat.{zero-add}
 use native.Mathlib.Omega.{arith}
 use lib.Dec.{lit<}
-use lib.ListN.{length, getD, take, set, replicate, length-set, length-replicate, getD-replicate}
+use lib.ListN.{length, getD, take, replicate, length-replicate}
 use lib.Seq.{ext-getD, getD-set-other}
 use Rattle.slices.specs.Choice.{le-or-lt}
 use Rattle.slices.specs.Splice.{splice}
@@ -15,17 +15,15 @@ use Rattle.slices.specs.Splice.Laws.{length-splice, getD-within, getD-behind}
 use Rattle.tables.specs.declared.Check.the-variants.{Passed}
 use Rattle.tables.specs.Lists.{Lists, vectors}
 use Rattle.tables.specs.Layout.{Layout, layoutOf, start, totalBytes}
-use Rattle.tables.specs.Layout.Laws.{count-is, width-is}
 use Rattle.tables.specs.Checks.{checks}
-use Rattle.tables.specs.Good.{Limits, Good}
+use Rattle.tables.specs.Good.{Good}
 use Rattle.tables.specs.Good.Laws.{limited, good, in-range}
 use Rattle.rules.specs.Gather as rules
-use Rattle.rules.specs.Gather.{State, width, begin}
+use Rattle.rules.specs.Gather.{State, begin}
 use Rattle.records.specs.Out.{Rooms, Out, empty}
 use Rattle.records.specs.Out.Laws.{Written}
 use Rattle.vecbuffer.specs.Numbers.{layoutFrom, Shapes, filled}
 use Rattle.vecbuffer.specs.Numbers.Laws.{layout-is}
-use Rattle.vecbuffer.specs.Stands.{Stands}
 use Rattle.vecbuffer.specs.Stands.Vectors.{getD-clear}
 use Rattle.vecbuffer.specs.Stands.Begin.{stands-first}
 use Rattle.gather.specs.Run.{gathers}

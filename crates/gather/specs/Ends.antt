@@ -3,12 +3,11 @@
 use mathlib.Core.Path.{_≡_, refl, sym, ap, fun-ext, _∙_}
 use Prim.Native.Nat.{ℕ, _+_, _<_, _≤_}
 use mathlib.Core.Bool.{Bool, true, false, not}
-use mathlib.Core.Option.{Option, none, some}
+use mathlib.Core.Option.{none, some}
 use mathlib.Core.List.{List, [], _∷_, _++_, append-nil, map}
 use native.Mathlib.Omega.{arith}
-use lib.ListN.{length, getD}
+use lib.ListN.{length}
 use Rattle.tables.specs.Lists.{Lists, lists}
-use Rattle.tables.specs.Layout.{layoutOf}
 use Rattle.tables.specs.Layout.Laws.{count-is}
 use Rattle.rules.specs.Vector.{ended, any, fires, Vec}
 use Rattle.rules.specs.Gather.{stepEnd, of, State, with, endAll, does}
@@ -20,19 +19,18 @@ use Rattle.vecbuffer.specs.Info.{withMark, Inside}
 use Rattle.vecbuffer.specs.Info as info
 use Rattle.vecbuffer.specs.Numbers.{listedIn}
 use Rattle.vecbuffer.specs.Changes.Laws.{after-mark}
-use Rattle.vecbuffer.specs.Stands.{flagsAt}
 use Rattle.vecbuffer.specs.Stands.Order.{none-listed}
 use Rattle.vecbuffer.specs.Stands.Laws.{asks-flags, asks-known, has-is, listed-at, listed-known, asks-listed, stands-unlisted, stands-over}
 use Rattle.gather.specs.Run.{eventsOf, acted, after}
-use Rattle.gather.specs.Memory.{Mem, memOf, Tabled, HoldsAt}
+use Rattle.gather.specs.Memory.{Mem, memOf, HoldsAt}
 use Rattle.gather.specs.Memory.Laws.{clean-unlisted}
-use Rattle.gather.specs.Follows.{Acts, Asks, Follows}
+use Rattle.gather.specs.Follows.{Acts, Asks}
 use Rattle.gather.specs.declared.Gathered.{Gathered}
 use Rattle.gather.specs.declared.Wrote.{Wrote}
 use Rattle.gather.specs.declared.Wrote.the-variants.{Done, Full}
 use Rattle.gather.specs.declared.VecInfo.{VecInfo}
-use Rattle.gather.specs.Makes.{vecInfo, Seen, FollowsAt, Makes, Shown, Shows, shownEvents, shownState, always, hasMarks}
-use Rattle.gather.specs.Makes.Laws.{makes-quiet, makes-shown, holds-as, follows-as, events-append, events-fires, shown-vecs, shown-listed}
+use Rattle.gather.specs.Makes.{Seen, Makes, Shown, Shows, shownEvents, shownState, always, hasMarks}
+use Rattle.gather.specs.Makes.Laws.{holds-as, events-append, events-fires, shown-vecs, shown-listed}
 use Rattle.gather.specs.Makes.Code.{test-quiet, test-shown}
 use Rattle.gather.specs.Writes.{vecInfoFrom, Looks, looks-at, seen-from}
 

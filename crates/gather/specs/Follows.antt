@@ -1,9 +1,8 @@
 -- What code that follows the acts promises: for every state of the gatherer and of the rooms that the memory holds before, it holds afterwards what the definitions say.
 -- Assumes nothing.
-use mathlib.Core.Path.{_≡_, refl, sym, ap, subst, _∙_}
+use mathlib.Core.Path.{_≡_, refl, _∙_}
 use Prim.Native.Nat.{ℕ}
 use mathlib.Core.Option.{Option, none, some}
-use mathlib.Core.List.{List}
 use Rattle.tables.specs.Lists.{Lists}
 use Rattle.rules.specs.Gather.{Act, State}
 use Rattle.records.specs.Out.{Rooms, Out}

@@ -8,7 +8,7 @@ use mathlib.Core.List.{List, [], _∷_, _++_}
 use lib.ListN.{getD}
 use Rattle.states.specs.Kind.{bits, stateOf}
 use Rattle.states.specs.Packed.{packed}
-use Rattle.tables.specs.Lists.{Lists, vectors}
+use Rattle.tables.specs.Lists.{Lists}
 use Rattle.tables.specs.Layout.{layoutOf}
 use Rattle.rules.specs.Vector.{Write, Vec, all, any, clashes, actsEarly}
 use Rattle.rules.specs.Gather.{State}

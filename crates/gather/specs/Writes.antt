@@ -2,13 +2,12 @@
 -- Assumes nothing.
 use mathlib.Core.Path.{_≡_, refl, sym, ap, _∙_}
 use Prim.Native.Nat.{ℕ, suc, _+_, _-_, _%_, _^_, _<_, _≤_}
-use mathlib.Core.Bool.{cond}
 use mathlib.Core.List.{List, [], _∷_}
 use native.Mathlib.Nat.{mod-eq-of-lt}
 use native.Mathlib.Omega.{arith}
 use native.Mathlib.Decide.{ℕ-discrete}
 use borrow.Author.Tests.{le-leb, lt-leb, eq-eqb, ne-eqb}
-use lib.Dec.{leb, eqb, lit<}
+use lib.Dec.{leb}
 use lib.ListN.{length, getD, replicate}
 use Rattle.slices.specs.Choice.{cond-ind}
 use Rattle.slices.specs.Splice.{splice}
@@ -18,8 +17,8 @@ use Rattle.numbers.specs.Fixed.Laws.{length-bigBytes}
 use Rattle.states.specs.declared.States.{States}
 use Rattle.states.specs.declared.States.the-variants.{Two, Nine}
 use Rattle.states.specs.Kind.{bits, stateOf}
-use Rattle.tables.specs.Lists.{Lists, lists, nth, signals, vectors}
-use Rattle.tables.specs.Layout.{layoutOf, start}
+use Rattle.tables.specs.Lists.{Lists, lists, nth, signals}
+use Rattle.tables.specs.Layout.{layoutOf}
 use Rattle.tables.specs.Layout.Laws.{count-is, width-is, state-is}
 use Rattle.tables.specs.Checks.Laws.{nth-less}
 use Rattle.tables.specs.Good.{Bit}
@@ -39,7 +38,7 @@ use Rattle.gather.specs.Follows.{Acts, Asks}
 use Rattle.gather.specs.declared.Gathered.{Gathered}
 use Rattle.gather.specs.declared.Wrote.{Wrote}
 use Rattle.gather.specs.declared.VecInfo.{VecInfo}
-use Rattle.gather.specs.Makes.{vecInfo, Seen, WroteBit, Puts}
+use Rattle.gather.specs.Makes.{Seen, WroteBit, Puts}
 use Rattle.gather.specs.Makes.Laws.{wroteOf, acts-single, acts-bit}
 
 -- ---- a vector looked up

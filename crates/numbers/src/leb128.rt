@@ -62,6 +62,13 @@ fn nine(s: &[u8], at: usize) -> Run
 pub fn unsigned(s: &[u8], at: usize) -> Leb
     ensures { λ r. ⌜ r ≡ readUnsigned (now (s .entry)) at ⌝ }
 {
+    // Most numbers have one byte.
+    if at < s.len() {
+        let first = s[at];
+        if first < 128 {
+            return Leb::Value((first % 128) as u64, at + 1);
+        }
+    }
     match nine(s, at) {
         Run::Ended {
             sum,

@@ -3,10 +3,10 @@
 -- Assumes nothing.
 use Prim.Native.Nat.{ℕ, zero, suc, _+_, _-_, _≤_}
 use mathlib.Core.Path.{_≡_}
-use mathlib.Core.Bool.{Bool, true, false, cond, _||_}
+use mathlib.Core.Bool.{Bool, false, cond, _||_}
 use mathlib.Core.List.{List, [], _∷_, _++_, map}
 use lib.Dec.{eqb}
-use Rattle.rules.specs.Vector.{Write, Op, start, put, stop, Cause, ended, Item, began, over, Vec, any, fresh, fires, act}
+use Rattle.rules.specs.Vector.{Write, Op, start, put, stop, ended, Item, began, over, Vec, any, fresh, fires, act}
 pub mod Laws
 pub mod Own
 pub mod Echo

@@ -3,7 +3,7 @@
 use Prim.Native.Nat.{ℕ, zero, suc, _+_, _^_}
 use mathlib.Core.Bool.{Bool, cond}
 use mathlib.Core.List.{List, [], _∷_}
-use lib.ListN.{length, getD, replicate}
+use lib.ListN.{length, replicate}
 use lib.Dec.{ltb, leb, eqb}
 use Rattle.slices.specs.Splice.{part}
 use Rattle.numbers.specs.Fixed.{fixed, negative}
@@ -12,9 +12,9 @@ use Rattle.numbers.specs.declared.marks.Section.{Section}
 use Rattle.numbers.specs.declared.marks.Section.the-variants.{Snapshot, Cycle, Directory, Tailer, Unknown}
 use Rattle.tables.specs.Lists.{Lists, nth, signals}
 use Rattle.values.specs.declared.Read.{Read}
-use Rattle.values.specs.declared.Read.the-variants.{Value, Bad}
+use Rattle.values.specs.declared.Read.the-variants.{Bad}
 use Rattle.values.specs.Value.{onRead, unsigned, signed, value}
-use Rattle.rules.specs.Gather.{Act, time, write, stepEnd}
+use Rattle.rules.specs.Gather.{time, write, stepEnd}
 use Rattle.gather.specs.Run.{Scan, say, done, fault, and-then}
 use Rattle.signals.specs.declared.NextId.{NextId}
 use Rattle.signals.specs.declared.NextId.the-variants as ids

@@ -10,7 +10,7 @@ use borrow.Author.Tests.{lt-ltb, le-ltb, lt-leb, le-leb, eq-eqb, ne-eqb}
 use lib.Dec.{ltb}
 use lib.ListN.{length, take, length-append}
 use Rattle.slices.specs.Splice.{splice, part}
-use Rattle.slices.specs.Splice.Laws.{length-part, length-splice, part-zero, splice-nil}
+use Rattle.slices.specs.Splice.Laws.{length-part, length-splice, part-zero, splice-nil, take-splice}
 use Rattle.states.specs.declared.States.{States}
 use Rattle.records.specs.declared.Record.{Record}
 use Rattle.records.specs.declared.Record.the-variants.{Time, Value, Real}
@@ -18,7 +18,6 @@ use Rattle.records.specs.declared.Next.{Next}
 use Rattle.records.specs.declared.Next.the-variants.{Event, End, Bad}
 use Rattle.records.specs.Stream.{nextEvent}
 use Rattle.records.specs.Stream.Laws.{past-end, found-event}
-use Rattle.records.specs.Out.Laws.{take-splice}
 use Rattle.encoder.specs.declared.Clock.{Clock}
 use Rattle.encoder.specs.declared.Progress.{Progress}
 use Rattle.encoder.specs.declared.Turn.{Turn}

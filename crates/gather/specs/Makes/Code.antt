@@ -1,6 +1,6 @@
 -- What the proofs of the functions over one vector search: the event of a vector, rules (a), (b) and (c).
 -- Assumes nothing.
-use mathlib.Core.Path.{_≡_, refl, sym, ap, subst, _∙_}
+use mathlib.Core.Path.{_≡_, sym, ap, _∙_}
 use Prim.Native.Nat.{ℕ, suc, _+_, _^_, _<_, _≤_}
 use mathlib.Core.Bool.{Bool, true, false, not}
 use mathlib.Core.List.{List, [], _∷_, _++_}
@@ -11,7 +11,7 @@ use Rattle.slices.specs.Splice.{splice}
 use Rattle.states.specs.Kind.{bits, stateOf}
 use Rattle.states.specs.Packed.{packed}
 use Rattle.tables.specs.Lists.{Lists}
-use Rattle.tables.specs.Layout.{layoutOf, valueBytes}
+use Rattle.tables.specs.Layout.{layoutOf}
 use Rattle.tables.specs.Layout.Laws.{count-is, state-is}
 use Rattle.rules.specs.Vector.{Vec}
 use Rattle.rules.specs.Gather.{State}
@@ -27,8 +27,8 @@ use Rattle.vecbuffer.specs.Info.{isSecond, marksOf, Inside}
 use Rattle.vecbuffer.specs.Info as info
 use Rattle.vecbuffer.specs.Full.{fullIn}
 use Rattle.vecbuffer.specs.Changes.{mk, updated, Updates, taken, Takes}
-use Rattle.vecbuffer.specs.Stands.{storing, clearing, Stands}
-use Rattle.vecbuffer.specs.Stands.Laws.{asks-flags, asks-vector, asks-known, second-is, full-is, has-is, values-long, asks-update, stands-update, asks-take, stands-taken, values-taken}
+use Rattle.vecbuffer.specs.Stands.{storing}
+use Rattle.vecbuffer.specs.Stands.Laws.{asks-flags, asks-vector, asks-known, second-is, full-is, values-long, asks-update, stands-update, stands-taken, values-taken}
 use Rattle.gather.specs.Memory.{Mem, memOf, HoldsAt, Roomy}
 use Rattle.gather.specs.Memory.Laws.{clean-taken, clean-updated}
 use Rattle.gather.specs.Follows.{Acts}
@@ -36,7 +36,7 @@ use Rattle.gather.specs.declared.Gathered.{Gathered}
 use Rattle.gather.specs.declared.Wrote.{Wrote}
 use Rattle.gather.specs.declared.Wrote.the-variants.{Done, Full}
 use Rattle.gather.specs.declared.VecInfo.{VecInfo}
-use Rattle.gather.specs.Makes.{vecInfo, Seen, FollowsAt, Makes, Shown, WroteBit, Shows, Puts, eventOf, shownEvents, shownState, always, writeOf, rewrites, completes, hasMarks, storedState, bitEvents, bitState}
+use Rattle.gather.specs.Makes.{vecInfo, Seen, Makes, Shown, WroteBit, Shows, Puts, eventOf, shownEvents, shownState, always, writeOf, rewrites, completes, storedState, bitEvents, bitState}
 use Rattle.gather.specs.Makes.Laws.{makes-then, makes-stop, makes-quiet, makes-shown, wroteOf, acts-time}
 
 -- ---- the answer of an append

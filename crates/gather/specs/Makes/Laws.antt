@@ -1,17 +1,17 @@
 -- How the parts compose, and what they say of the acts.
 -- Assumes nothing.
-use mathlib.Core.Path.{_≡_, refl, sym, ap, subst, _∙_}
+use mathlib.Core.Path.{_≡_, refl, sym, ap, _∙_}
 use Prim.Native.Nat.{ℕ, suc, _-_}
 use mathlib.Core.Bool.{Bool, true, false, cond, _&&_}
-use mathlib.Core.Option.{Option, none, some}
-use mathlib.Core.List.{List, [], _∷_, _++_, map, append-nil, append-assoc, map-append}
+use mathlib.Core.Option.{Option, some}
+use mathlib.Core.List.{List, [], _∷_, _++_, map, append-assoc, map-append}
 use borrow.Author.Tests.{eqb-true, eq-eqb}
 use lib.Dec.{eqb}
 use lib.ListN.{getD}
 use Rattle.slices.specs.Choice.{cond-ind}
 use Rattle.tables.specs.Lists.{Lists, nth}
 use Rattle.tables.specs.Layout.{layoutOf}
-use Rattle.rules.specs.Vector.{Write, Cause, rewritten, complete, wrote, Vec, all, cleared, fires, clashes, stored, actsEarly, act}
+use Rattle.rules.specs.Vector.{Write, Cause, rewritten, complete, Vec, all, cleared, fires, clashes, stored, actsEarly, act}
 use Rattle.rules.specs.Vector as op
 use Rattle.rules.specs.Gather as gather
 use Rattle.rules.specs.Gather.{Act, write, Happening, at, single, of, ends, State, with, list, width, bitWrite, toVector, toward, does}

@@ -2,31 +2,28 @@
 -- Assumes nothing.
 use mathlib.Core.Path.{_≡_, refl, sym, ap, subst, _∙_}
 use Prim.Native.Nat.{ℕ, suc, _+_, _-_, _*_, _/_, _%_, _^_, _<_, _≤_}
-use mathlib.Core.Bool.{true, false, cond}
 use mathlib.Core.List.{List}
 use mathlib.Core.Logic.{_⊎_, ⊎-elim}
 use native.Mathlib.Omega.{arith}
 use lib.Dec.{eqb, lit<}
-use lib.ListN.{length, getD, set, replicate, length-set, length-replicate, getD-replicate}
-use lib.Seq.{getD-set-same, getD-set-other, set-out, ext-getD}
+use lib.ListN.{length, getD, set, replicate, length-replicate, getD-replicate}
+use lib.Seq.{getD-set-same, getD-set-other, set-out}
 use Rattle.slices.specs.Choice.{cond-ind, tri, apart, le-or-lt}
 use Rattle.slices.specs.Splice.{splice}
-use Rattle.slices.specs.Splice.Laws.{length-splice, getD-before, getD-within, getD-behind}
+use Rattle.slices.specs.Splice.Laws.{getD-before, getD-within, getD-behind}
 use Rattle.states.specs.declared.States.the-variants.{Two}
 use Rattle.states.specs.Kind.{bits}
-use Rattle.states.specs.Field.{fieldSet}
 use Rattle.states.specs.Field.Laws.{set-byte}
 use Rattle.states.specs.Packed.{setAt, valuePlace}
 use Rattle.states.specs.Packed.Laws.{value-byte, value-in, bit-fits, bits-some}
 use Rattle.tables.specs.Layout.{Layout, start, totalBytes}
-use Rattle.rules.specs.Vector.{Write}
-use Rattle.rules.specs.Gather.{State, elem}
+use Rattle.rules.specs.Gather.{State}
 use Rattle.vecbuffer.specs.declared.VecBufferInfo.{VecBufferInfo}
 use Rattle.vecbuffer.specs.Info.{infoAt, withValue, markPlace, withMark, isMarked, withoutMarks, maskBytesOf, Inside, endOf, Apart, first, HasMark}
 use Rattle.vecbuffer.specs.Info.Laws.{ask-value}
 use Rattle.vecbuffer.specs.Info.Keeps.{length-cleared, inside-as, mark-value-apart, mark-mark-apart}
 use Rattle.vecbuffer.specs.Numbers.{listing}
-use Rattle.vecbuffer.specs.Numbers.Laws.{start-le}
+use Rattle.tables.specs.Layout.Laws.{start-le}
 use Rattle.vecbuffer.specs.Changes.{Lent, mk, marked, updated, taken}
 use Rattle.vecbuffer.specs.Changes.Laws.{none-small, one-small, after-value, after-mark, has-value, has-mark}
 use Rattle.vecbuffer.specs.Stands.{flagsAt, Stands}

@@ -13,9 +13,9 @@ use borrow.Author.Tests.{le-leb, lt-leb}
 use mir.Val.{Fits}
 use mir.Syntax.{w32}
 use Rattle.slices.specs.Splice.{splice, part}
-use Rattle.slices.specs.Splice.Laws.{length-part, splice-splice}
+use Rattle.slices.specs.Splice.Laws.{length-part, splice-splice, part-join}
 use Rattle.numbers.specs.Fixed.{little, big, fixed, bigBytes, negative, positive}
-use Rattle.numbers.specs.Fixed.Laws.{big-append, little-append, length-bigBytes, bigBytes-join, part-join, part-four}
+use Rattle.numbers.specs.Fixed.Laws.{big-append, little-append, length-bigBytes, bigBytes-join, part-four}
 use Rattle.numbers.specs.declared.fixed.Positive.the-variants.{Number, Negative}
 
 -- ---- reading

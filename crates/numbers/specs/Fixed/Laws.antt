@@ -8,7 +8,7 @@ use mathlib.Core.List.{List, [], _∷_, _++_, reverse, reverse-cons}
 use native.Mathlib.Nat.{pow-succ', mod-lt, mod-eq-of-lt, one-le-pow, add-assoc, add-zero, suc-add, zero-add, mul-assoc, mul-comm, add-mul, mul-add, mod-one, div-add-mod', div-div-eq-div-mul, mul-add-div-right, mul-add-mod-self-right}
 use native.Mathlib.Omega.{arith}
 use lib.ListN.{length, getD, take, drop, length-append, length-take, List·getD-eq-default}
-use lib.Seq.{take-add, drop-drop, drop-at, getD-take, getD-drop, length-take-le, take-append-seam}
+use lib.Seq.{getD-take, getD-drop}
 use lib.Arith.{mod-mul, digits-lt, digits-div}
 use lib.Pow.{pow-add}
 use borrow.Author.Tests.{leb-true, leb-false, le-leb, lt-leb, le-ltb, lt-ltb}
@@ -17,7 +17,7 @@ use mir.Val.{bits, hbits, toZ}
 use mir.Syntax.{Width, w8, w16, w32, w64, w128}
 use Rattle.slices.specs.Choice.{le-or-lt, cond-ind}
 use Rattle.slices.specs.Splice.{splice, part}
-use Rattle.slices.specs.Splice.Laws.{length-part, part-snoc, part-zero}
+use Rattle.slices.specs.Splice.Laws.{length-part, part-snoc, part-zero, part-splice}
 use Rattle.numbers.specs.Fixed.{little, big, fixed, bigBytes, negative, positive}
 use Rattle.numbers.specs.declared.fixed.Positive.{Positive}
 use Rattle.numbers.specs.declared.fixed.Positive.the-variants.{Number, Negative}
@@ -110,11 +110,6 @@ bigBytes-join (suc m) n v = rw (suc-add, pow-add, mul-comm (256 ^ m), ← div-di
 
 -- ---- bytes in a list
 
--- a part, in two parts
-pub part-join : (s : List ℕ) (at m n : ℕ) → part s at m ++ part s (at + m) n ≡ part s at (m + n)
-unfolding part
-part-join s at m n = rw (take-add m n (drop at s), drop-drop m at s)
-
 -- a part of four, one by one
 pub part-four : (s : List ℕ) (at : ℕ) → at + 4 ≤ length s
     → part s at 4 ≡ getD s at 0 ∷ getD s (at + 1) 0 ∷ getD s (at + 2) 0 ∷ getD s (at + 3) 0 ∷ []
@@ -131,11 +126,6 @@ part-bytes s at n h i =
 
 pub part-below : (flag : Bool) (s : List ℕ) (at n : ℕ) → Bytes s → at + n ≤ length s → fixed flag (part s at n) < 256 ^ n
 part-below flag s at n h o = rw (length-part s at n o) at (fixed-below flag (part s at n) (part-bytes s at n h))
-
--- what was written is read back
-pub part-splice : (l : List ℕ) (at : ℕ) (bs : List ℕ) → at ≤ length l → part (splice l at bs) at (length bs) ≡ bs
-unfolding part splice
-part-splice l at bs h = rw (drop-at (take at l) (bs ++ drop (at + length bs) l) at (length-take-le at l h), take-append-seam)
 
 -- a number that was written is read back
 pub read-back : (l : List ℕ) (at n v : ℕ) → at ≤ length l → v < 256 ^ n → big (part (splice l at (bigBytes n v)) at n) ≡ v

@@ -183,6 +183,11 @@ pub unsigned-ended : (s : List ℕ) (at : ℕ) {r : Run} → Nine s at r → {su
     → Value sum next ≡ readUnsigned s at
 unsigned-ended s at n {sum} e = leb-ended _ _ s at n e sum (λ f. f .total)
 
+pub unsigned-one : (s : List ℕ) (at : ℕ) → at < length s → getD s at 0 < 128 → Value (getD s at 0 % 128) (at + 1) ≡ readUnsigned s at
+unsigned-one s at h b =
+    let e : 0 + getD s at 0 % 128 * 1 ≡ getD s at 0 % 128 = omega arith in
+    rw e at (unsigned-ended s at {r = Ended (0 + getD s at 0 % 128 * 1) 128 (getD s at 0) (at + 1)} (nine-ended (passed-none s at) h (omega arith) b) refl)
+
 pub unsigned-large : (b : ℕ) → 1 < b → unsignedTenth b ≡ false
 unfolding unsignedTenth
 unsigned-large b h = lt-leb b 1 h
@@ -252,7 +257,7 @@ signed-large b z o = simp (ne-eqb b 0 z, ne-eqb b 127 o)
 -- what the proofs of `nine`, `unsigned` and `signed` search
 pub ruleset nine-laws = (passed-none, passed-more, weight-fits, group-fits, sum-fits, nine-ended, nine-short, nine-open)
 
-pub ruleset unsigned-laws = (leb-short, leb-cut, leb-large, tenth-fits, unsigned-ended, unsigned-large, unsigned-ten)
+pub ruleset unsigned-laws = (unsigned-one, leb-short, leb-cut, leb-large, tenth-fits, unsigned-ended, unsigned-large, unsigned-ten)
 
 pub ruleset signed-laws =
     (leb-short, leb-cut, leb-large, ten-fits, high-fits, high-fits-one, signed-ended-low, signed-ended-high, signed-large, signed-ten-low, signed-ten-high)

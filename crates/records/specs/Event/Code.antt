@@ -6,14 +6,14 @@ use mathlib.Core.List.{List, [], _∷_, _++_}
 use native.Mathlib.Omega.{arith}
 use lib.ListN.{length, take, set, length-append, length-set}
 use Rattle.slices.specs.Splice.{splice, part}
-use Rattle.slices.specs.Splice.Laws.{splice-splice, splice-all, length-splice, length-part}
+use Rattle.slices.specs.Splice.Laws.{splice-splice, splice-all, length-splice, length-part, part-front, set-splice}
 use Rattle.numbers.specs.Fixed.{bigBytes}
 use Rattle.numbers.specs.Fixed.Laws.{length-bigBytes}
 use Rattle.states.specs.declared.States.{States}
 use Rattle.records.specs.declared.Record.{Record}
 use Rattle.records.specs.declared.Record.the-variants.{Time, Value, Real}
 use Rattle.records.specs.Event.{kindOf, recordBytes}
-use Rattle.records.specs.Event.Laws.{three, length-three, part-front, set-splice, time-three, value-three, real-three, length-time, length-value, length-real}
+use Rattle.records.specs.Event.Laws.{three, length-three, time-three, value-three, real-three, length-time, length-value, length-real}
 
 module _ (a b c : ℕ) where
   -- the body as it is built

@@ -1,33 +1,16 @@
 -- Laws of event records: how long they are, and their bytes from three numbers.
 -- Assumes nothing.
-use mathlib.Core.Path.{_≡_, refl, ap, _∙_}
+use mathlib.Core.Path.{_≡_, ap, _∙_}
 use Prim.Native.Nat.{ℕ, suc, _+_, _/_, _%_, _<_}
 use mathlib.Core.List.{List, [], _∷_, _++_, append-assoc}
 use native.Mathlib.Omega.{arith}
-use lib.ListN.{length, take, set, length-append}
+use lib.ListN.{length, take, length-append}
 use lib.Seq.{take-all, take-at}
-use Rattle.slices.specs.Splice.{splice, part}
-use Rattle.slices.specs.Splice.Laws.{splice-snoc, splice-nil}
 use Rattle.numbers.specs.Fixed.{bigBytes}
 use Rattle.numbers.specs.Fixed.Laws.{length-bigBytes, bigBytes-join}
 use Rattle.states.specs.declared.States.{States}
 use Rattle.records.specs.declared.Record.the-variants.{Time, Value, Real}
 use Rattle.records.specs.Event.{kindOf, recordBytes}
-
--- a part from the front
-pub part-front : (l : List ℕ) (n : ℕ) → part l 0 n ≡ take n l
-unfolding part
-part-front l n = refl
-
--- one byte in place of another
-pub set-splice : (l : List ℕ) (at v : ℕ) → at < length l → set l at v ≡ splice l at (v ∷ [])
-set-splice l at v h = go (splice-snoc l at [] v (omega arith))
-  where
-    e : at + length {A = ℕ} [] ≡ at
-    e = omega arith
-
-    go : set (splice l at []) (at + length {A = ℕ} []) v ≡ splice l at (v ∷ []) → set l at v ≡ splice l at (v ∷ [])
-    go p = rw (← splice-nil l at, e) at p
 
 -- ---- a body of three numbers
 

@@ -4,16 +4,15 @@ use mathlib.Core.Path.{_≡_, refl, sym, ap, _∙_}
 use Prim.Native.Nat.{ℕ, _+_, _*_, _≤_}
 use mathlib.Core.Bool.{Bool, true, false, _&&_, false≢true}
 use mathlib.Core.Option.{Option, none, some}
-use mathlib.Core.List.{List, [], _∷_, _++_, append-assoc}
+use mathlib.Core.List.{List, [], _∷_, _++_}
 use native.Mathlib.Omega.{arith}
 use borrow.Author.Tests.{leb-true}
 use lib.Dec.{leb}
-use lib.ListN.{length, take, drop, length-append}
-use lib.Seq.{length-take-le, take-at}
+use lib.ListN.{length, take, length-append}
 use Rattle.slices.specs.Splice.{splice}
 use Rattle.states.specs.declared.States.{States}
 use Rattle.records.specs.declared.Record.the-variants.{Value}
-use Rattle.slices.specs.Splice.Laws.{length-splice}
+use Rattle.slices.specs.Splice.Laws.{length-splice, take-splice}
 use Rattle.records.specs.declared.Counts.{Counts}
 use Rattle.records.specs.declared.Put.{Put}
 use Rattle.records.specs.declared.Put.the-variants.{Done, Full}
@@ -148,13 +147,6 @@ unfolding eventSteps recordOf
 steps-long (time u) = omega (arith, length-time u)
 steps-long (value v s reference bs) = omega arith
 steps-long (real reference bits) = omega arith
-
--- what is written at the end of some bytes
-pub take-splice : (l : List ℕ) (at : ℕ) (bs : List ℕ) → at ≤ length l → take (at + length bs) (splice l at bs) ≡ take at l ++ bs
-unfolding splice
-take-splice l at bs h =
-    let e : length (take at l ++ bs) ≡ at + length bs = length-append (take at l) bs ∙ ap (λ (k : ℕ). k + length bs) (length-take-le at l h) in
-    rw (← append-assoc (take at l) bs (drop (at + length bs) l)) (take-at (take at l ++ bs) (drop (at + length bs) l) (at + length bs) e)
 
 -- whether an event fits rooms of so many bytes
 abbrev pub roomForEvent : (events values : ℕ) → Counts → Event → Bool

@@ -12,9 +12,9 @@ use lib.ListN.{length, getD, take, drop}
 use lib.Seq.{getD-drop, drop-cons}
 use Rattle.slices.specs.Choice.{tri}
 use Rattle.slices.specs.Splice.{part}
-use Rattle.slices.specs.Splice.Laws.{length-part}
+use Rattle.slices.specs.Splice.Laws.{length-part, part-join}
 use Rattle.numbers.specs.Fixed.{big, bigBytes}
-use Rattle.numbers.specs.Fixed.Laws.{Bytes, bigBytes-back, part-join}
+use Rattle.numbers.specs.Fixed.Laws.{Bytes, bigBytes-back}
 use Rattle.states.specs.declared.States.{States}
 use Rattle.states.specs.declared.States.the-variants.{Two, Nine}
 use Rattle.records.specs.declared.Record.{Record}

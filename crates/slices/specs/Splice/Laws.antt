@@ -6,7 +6,7 @@ use native.Mathlib.Nat.{add-zero, zero-add, add-assoc}
 use native.Mathlib.Numerals.{add-one}
 use native.Mathlib.Omega.{arith}
 use lib.ListN.{replicate, length-replicate, replicate-append-replicate, length, take, drop, set, getD, length-append, length-take, length-drop, take-append-drop, drop-of-length-le, List·getD-append}
-use lib.Seq.{take-all, take-suc, drop-cons, set-at, take-at, drop-at, drop-append-add, drop-drop, getD-drop, getD-take, getD-append-add, length-take-le, append-snoc}
+use lib.Seq.{take-add, take-all, take-suc, drop-cons, set-at, take-at, drop-at, drop-append-add, drop-drop, getD-drop, getD-take, getD-append-add, length-take-le, take-append-seam, append-snoc}
 use Rattle.slices.specs.Splice.{splice, part}
 
 pub splice-nil : (l : List ℕ) (at : ℕ) → l ≡ splice l at []
@@ -94,3 +94,39 @@ module _ (l : List ℕ) (at : ℕ) (bs : List ℕ) (h : at + length bs ≤ lengt
       ap (λ (k : ℕ). getD (take at l ++ (bs ++ drop (at + length bs) l)) k 0) (sym f)
       ∙ (rw (← append-assoc (take at l) bs (drop (at + length bs) l)) (getD-append-add (take at l ++ bs) (drop (at + length bs) l) (i - (at + length bs)) 0)
       ∙ (getD-drop (at + length bs) l (i - (at + length bs)) 0 ∙ ap (λ (k : ℕ). getD l k 0) g))
+
+-- a part, in two parts
+pub part-join : (s : List ℕ) (at m n : ℕ) → part s at m ++ part s (at + m) n ≡ part s at (m + n)
+unfolding part
+part-join s at m n = rw (take-add m n (drop at s), drop-drop m at s)
+
+-- what was written is read back
+pub part-splice : (l : List ℕ) (at : ℕ) (bs : List ℕ) → at ≤ length l → part (splice l at bs) at (length bs) ≡ bs
+unfolding part splice
+part-splice l at bs h = rw (drop-at (take at l) (bs ++ drop (at + length bs) l) at (length-take-le at l h), take-append-seam)
+
+-- what is written at the end of some bytes
+pub take-splice : (l : List ℕ) (at : ℕ) (bs : List ℕ) → at ≤ length l → take (at + length bs) (splice l at bs) ≡ take at l ++ bs
+unfolding splice
+take-splice l at bs h =
+    let e : length (take at l ++ bs) ≡ at + length bs = length-append (take at l) bs ∙ ap (λ (k : ℕ). k + length bs) (length-take-le at l h) in
+    rw (← append-assoc (take at l) bs (drop (at + length bs) l)) (take-at (take at l ++ bs) (drop (at + length bs) l) (at + length bs) e)
+
+-- a part from the front
+pub part-front : (l : List ℕ) (n : ℕ) → part l 0 n ≡ take n l
+unfolding part
+part-front l n = refl
+
+-- one byte in place of another
+pub set-splice : (l : List ℕ) (at v : ℕ) → at < length l → set l at v ≡ splice l at (v ∷ [])
+set-splice l at v h = go (splice-snoc l at [] v (omega arith))
+  where
+    e : at + length {A = ℕ} [] ≡ at
+    e = omega arith
+
+    go : set (splice l at []) (at + length {A = ℕ} []) v ≡ splice l at (v ∷ []) → set l at v ≡ splice l at (v ∷ [])
+    go p = rw (← splice-nil l at, e) at p
+
+pub getD-part : (l : List ℕ) (at n j : ℕ) → j < n → getD (part l at n) j 0 ≡ getD l (at + j) 0
+unfolding part
+getD-part l at n j h = rw (getD-take, getD-drop)

@@ -1,7 +1,7 @@
 -- Fields read after a field was set.
-use mathlib.Core.Path.{_≡_, refl, sym, ap, _∙_}
-use Prim.Native.Nat.{ℕ, zero, _+_, _-_, _*_, _<_, _≤_, _/_, _%_, _^_}
-use native.Mathlib.Nat.{mod-lt, mod-eq-of-lt, add-assoc, add-comm}
+use mathlib.Core.Path.{_≡_, sym, ap, _∙_}
+use Prim.Native.Nat.{ℕ, _+_, _-_, _*_, _<_, _≤_, _/_, _%_, _^_}
+use native.Mathlib.Nat.{mod-lt, add-assoc}
 use native.Mathlib.Omega.{arith}
 use lib.Pow.{pow-pos, pow-add, shr-lt, shr-shr, high, low, field, mod-mod-pow}
 use lib.Arith.{digits-lt}

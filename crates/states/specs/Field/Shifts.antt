@@ -1,6 +1,6 @@
 -- A field of any width at any place of a number of any width, set by shifts and masks.
-use mathlib.Core.Path.{_≡_, refl, sym, ap, _∙_}
-use Prim.Native.Nat.{ℕ, zero, _+_, _-_, _*_, _<_, _≤_, _/_, _%_, _^_}
+use mathlib.Core.Path.{_≡_, sym, ap, _∙_}
+use Prim.Native.Nat.{ℕ, _+_, _-_, _*_, _<_, _≤_, _/_, _%_, _^_}
 use native.Mathlib.Nat.{mod-lt, mod-eq-of-lt, add-assoc, zero-mul, zero-add}
 use native.Mathlib.Omega.{arith}
 use lib.Pow.{pow-pos, shl-lt, shl-exact, shr-lt, split, ones-lt, ones-split, mod-mod-pow, pow-mono}

@@ -1,6 +1,6 @@
 -- Laws of packed values.
 -- Assumes nothing.
-use mathlib.Core.Path.{_≡_, refl, sym, ap, _∙_}
+use mathlib.Core.Path.{_≡_, refl, _∙_}
 use Prim.Native.Nat.{ℕ, zero, suc, _+_, _-_, _*_, _/_, _%_, _^_, _<_, _≤_}
 use mathlib.Core.Bool.{Bool, true, false, cond}
 use mathlib.Core.List.{List, [], _∷_}
@@ -16,7 +16,7 @@ use Rattle.states.specs.declared.States.the-variants.{Two, Nine}
 use Rattle.states.specs.Kind.{bits, mask, perByte, bytesRequired, stateOf}
 use Rattle.states.specs.Field.{fieldGet, fieldSet}
 use Rattle.states.specs.Field.Laws.{get-set, get-above, get-below}
-use Rattle.states.specs.Packed.{digits, bytes, packed, fieldAt, setAt, valuePlace}
+use Rattle.states.specs.Packed.{fieldAt, setAt, valuePlace}
 
 -- ---- the kinds
 

@@ -1,8 +1,8 @@
 -- Laws of values: what the readers of each kind find, and where a value that was found ends.
 -- Assumes nothing.
-use mathlib.Core.Path.{_≡_, refl, sym, ap, subst, _∙_}
-use Prim.Native.Nat.{ℕ, zero, suc, _+_, _^_, _≤_, _<_}
-use mathlib.Core.Bool.{Bool, true, false, cond}
+use mathlib.Core.Path.{_≡_, sym, ap, subst, _∙_}
+use Prim.Native.Nat.{ℕ, _+_, _^_, _≤_, _<_}
+use mathlib.Core.Bool.{cond}
 use mathlib.Core.List.{List}
 use native.Mathlib.Omega.{arith}
 use borrow.Author.Tests.{le-leb, lt-leb, eq-eqb, ne-eqb, leb-true, leb-false, eqb-false}
@@ -14,7 +14,7 @@ use Rattle.slices.specs.declared.Field.{Field}
 use Rattle.slices.specs.declared.Field.the-variants.{Next, Short}
 use Rattle.slices.specs.Splice.{part}
 use Rattle.numbers.specs.Fixed.{little}
-use Rattle.numbers.specs.Leb128.{readUnsigned, readSigned, lebOf}
+use Rattle.numbers.specs.Leb128.{readUnsigned, readSigned}
 use Rattle.numbers.specs.Leb128.Laws.{leb-within, Within}
 use Rattle.numbers.specs.declared.leb128.Leb.{Leb}
 use Rattle.numbers.specs.declared.leb128.Leb.the-variants as leb128
@@ -22,7 +22,7 @@ use Rattle.states.specs.Letters.{mapped}
 use Rattle.states.specs.Letters.Laws.{mapped-most}
 use Rattle.values.specs.declared.Read.{Read}
 use Rattle.values.specs.declared.Read.the-variants.{Value, Bad}
-use Rattle.values.specs.Value.{onRead, number, unsigned, signed, byteUpTo, real, value, mostOf, Suits}
+use Rattle.values.specs.Value.{number, unsigned, signed, byteUpTo, real, value, mostOf, Suits}
 
 -- ---- what the readers find
 

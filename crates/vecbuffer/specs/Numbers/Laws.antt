@@ -14,6 +14,7 @@ use Rattle.states.specs.declared.States.{States}
 use Rattle.states.specs.declared.States.the-variants.{Two, Nine}
 use Rattle.states.specs.Kind.{bytesRequired, stateOf}
 use Rattle.tables.specs.Lists.{Lists, vectors}
+use Rattle.tables.specs.Layout.Laws.{start-le}
 use Rattle.tables.specs.Layout.{Layout, layoutOf, start}
 use Rattle.vecbuffer.specs.declared.VecBufferInfo.{VecBufferInfo}
 use Rattle.vecbuffer.specs.Info.{infoAt}
@@ -33,18 +34,6 @@ bytes-most Nine w = omega arith
 
 pub fits-chunk : (s : States) (w x a b : ℕ) → w ≤ 4294967296 → x ≤ 4294967296 → a ≡ bytesRequired s w → b ≡ bytesRequired Two x → Fits w64 (a + b)
 fits-chunk s w x a b h o p q = omega (arith, bytes-most s w, bytes-most Two x)
-
-module _ (t : Layout) where
-  start-mono : (v d : ℕ) → start t v ≤ start t (v + d)
-  unfolding start
-  start-mono v zero = rw add-zero (omega arith)
-  start-mono v (suc d) = rw add-suc (omega (arith, start-mono v d))
-
-  -- the bytes of a vector end where those of a later one start, or before
-  pub start-le : (v w : ℕ) → v ≤ w → start t v ≤ start t w
-  start-le v w h =
-      let e : v + (w - v) ≡ w = omega arith in
-      rw e at (start-mono v (w - v))
 
 module _ (mins maxs states : List ℕ) where
   abbrev t : Layout

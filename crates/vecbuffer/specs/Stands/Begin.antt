@@ -17,7 +17,8 @@ use Rattle.tables.specs.Lists.{vectors}
 use Rattle.tables.specs.Layout.{Layout, layoutOf, start, totalBytes}
 use Rattle.vecbuffer.specs.Info.{valueOf, markOf}
 use Rattle.vecbuffer.specs.Numbers.{layoutFrom, Shapes, startIn, Started, filled}
-use Rattle.vecbuffer.specs.Numbers.Laws.{start-le, width-is, width-flags}
+use Rattle.tables.specs.Layout.Laws.{start-le}
+use Rattle.vecbuffer.specs.Numbers.Laws.{width-is, width-flags}
 use Rattle.vecbuffer.specs.Stands.{Laid, Stands}
 use Rattle.vecbuffer.specs.Stands.Order.{listed-none}
 use Rattle.vecbuffer.specs.Stands.Vectors.{any-clear, getD-clear}

@@ -9,10 +9,9 @@ use native.Mathlib.Omega.{arith}
 use borrow.Author.Tests.{eqb-true}
 use lib.Dec.{eqb, lit<}
 use lib.ListN.{length, getD}
-use lib.Seq.{getD-take, getD-drop}
 use Rattle.slices.specs.Choice.{cond-ind}
 use Rattle.slices.specs.Splice.{splice, part}
-use Rattle.slices.specs.Splice.Laws.{length-part}
+use Rattle.slices.specs.Splice.Laws.{length-part, getD-part}
 use Rattle.states.specs.declared.States.the-variants.{Two}
 use Rattle.states.specs.Kind.{bits, bytesRequired}
 use Rattle.states.specs.Field.{fieldGet}
@@ -48,10 +47,6 @@ stands-as {t} {nums = nums} {i} {k} {g} g' s e l =
     }
 
 -- ---- where the vectors lie, and what the tests say
-
-getD-part : (l : List ℕ) (at n j : ℕ) → j < n → getD (part l at n) j 0 ≡ getD l (at + j) 0
-unfolding part
-getD-part l at n j h = rw (getD-take, getD-drop)
 
 module _ {t : Layout} {room nums : List ℕ} {i k : ℕ} {g : State} (s : Stands t room nums i k g) where
   -- what the functions over the flags ask
