@@ -152,6 +152,10 @@ fn check(t: &Tables, input: usize, rooms: &Rooms, flat: Option<usize>) -> Result
     if !equal || n > MOST_SIGNALS || vectors > MOST_VECTORS {
         return refuse(2, 0);
     }
+    // Without room for the flat lists no record is looked at.
+    if flat.map_or(false, |f| f < 4 * vectors) {
+        return refuse(6, 0);
+    }
     for v in 0..vectors {
         let good = 1 <= t.mins[v] && t.mins[v] <= t.maxs[v] && t.maxs[v] as usize <= n && t.states[v] <= 1 && t.vec_refs[v] != 0;
         if !good {
@@ -188,7 +192,7 @@ fn check(t: &Tables, input: usize, rooms: &Rooms, flat: Option<usize>) -> Result
         return refuse(5, id as usize);
     }
     let (bytes, numbers) = needs(t);
-    if rooms.room < bytes || rooms.list < numbers || flat.map_or(false, |f| f < 4 * vectors) {
+    if rooms.room < bytes || rooms.list < numbers {
         return refuse(6, 0);
     }
     Ok(())

@@ -5,3 +5,4 @@ pub mod Unique
 pub mod Demands
 pub mod Reading
 pub mod Begin
+pub mod Lent

@@ -1,6 +1,7 @@
 // The public entries.
 mod ends;
 mod kept;
+mod lent;
 mod passed;
 
 use encoder::apply;
@@ -8,6 +9,9 @@ use ends::refuse;
 use kept::end_kept;
 use kept::refuse_kept;
 use kept::within_limits;
+use lent::read_flat;
+use lent::room_for;
+use lent::unpack;
 use passed::changes_passed;
 use passed::sections_passed;
 use tables::Check;
@@ -17,6 +21,8 @@ ghost use lib.ListN.{length};
 ghost use Rattle.tables.specs.Lists.{lists};
 ghost use Rattle.doorquill.specs.Entries.{readSections, readChanges, LeftKept, applyTimeRule};
 ghost use Rattle.doorquill.specs.Reading.{leftOf, lentOf};
+ghost use Rattle.doorquill.specs.Lent.Flat.{leftLent};
+ghost use Rattle.doorquill.specs.Lent.{readSectionsLent};
 
 // Document 01's six numbers.
 #[repr(C)]
@@ -27,6 +33,15 @@ pub struct Answer {
     pub events: u64,
     pub values: u64,
     pub steps: u64,
+}
+
+// A vector's record, as a host lends it.
+#[repr(C)]
+pub struct Vector {
+    pub min: u32,
+    pub max: u32,
+    pub state: u8,
+    pub reference: u32,
 }
 
 // Section reading.
@@ -79,6 +94,40 @@ pub extern "C" fn doorquill_read_sections(
         ),
         Check::Refused(number, place) => refuse(events, values, room, list, number, place),
     }
+}
+
+// Section reading over vector records: a thin entry over the same core. `flat` lends 4 numbers for each record; it is a working buffer.
+#[no_mangle]
+pub extern "C" fn doorquill_read_sections_lent(
+    kinds: &[u8],
+    refs: &[u32],
+    vecs: &[u32],
+    vectors: &[Vector],
+    flat: &mut [u32],
+    big_endian: bool,
+    input: &[u8],
+    events: &mut [u8],
+    values: &mut [u8],
+    room: &mut [u8],
+    list: &mut [u32],
+) -> Answer
+    ensures { λ r. ⌜ leftLent r (now (flat .exit)) (now (events .exit)) (now (values .exit)) (now (room .exit)) (now (list .exit)) ≡ readSectionsLent (now (vectors .entry)) (now (kinds .entry)) (now (refs .entry)) (now (vecs .entry)) «big_endian» (now (input .entry)) (lentOf (now (events .entry)) (now (values .entry)) (now (room .entry)) (now (list .entry))) (length (now (flat .entry))) ⌝ }
+{
+    let n = room_for(vectors.len(), flat.len());
+    unpack(vectors, flat, n);
+    read_flat(
+        kinds,
+        refs,
+        vecs,
+        vectors.len(),
+        flat,
+        big_endian,
+        input,
+        events,
+        values,
+        room,
+        list,
+    )
 }
 
 // Change reading.

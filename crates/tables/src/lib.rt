@@ -24,7 +24,7 @@ fn widen(x: u32) -> usize
 }
 
 // A check whose place is 0.
-fn unless(good: bool, number: u64) -> Check
+pub fn unless(good: bool, number: u64) -> Check
     ensures { λ r. ⌜ r ≡ unless good number ⌝ }
 {
     if good {
@@ -42,7 +42,7 @@ pub fn within_limit(len: usize) -> bool
 }
 
 // Check 1.
-fn check_limits(input: usize, events: usize, values: usize, room: usize, list: usize) -> Check
+pub fn check_limits(input: usize, events: usize, values: usize, room: usize, list: usize) -> Check
     ensures { λ r. ⌜ r ≡ check1 input events values room list ⌝ }
 {
     unless(

@@ -1,0 +1,27 @@
+-- `doorquill::lent::run_of` meets its contract: each need follows from `runs-laws`. Assumes nothing.
+use Rattle.doorquill.specs.Lent.Laws.{runs-laws}
+use borrow.Author.Needs.{needs}
+use Rattle.doorquill.proofs.lent.run_of.Statement.{statement}
+use Rattle.doorquill.proofs.lent.run_of.Tie as tie
+
+add-result : tie.Need-add-result
+add-result c = search (runs-laws, needs)
+
+mul-result : tie.Need-mul-result
+mul-result c = search (runs-laws, needs)
+
+sub-result : tie.Need-sub-result
+sub-result c = search (runs-laws, needs)
+
+part-result-start : tie.Need-part-result-start
+part-result-start c = search (runs-laws, needs)
+
+part-result-end : tie.Need-part-result-end
+part-result-end c = search (runs-laws, needs)
+
+returns : tie.Need-returns
+returns c = search (runs-laws, needs)
+
+pub run-of-spec : {M : Type 1} → statement M
+run-of-spec =
+    tie.close (tie.spec add-result mul-result sub-result part-result-start part-result-end returns)
