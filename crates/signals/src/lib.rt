@@ -17,7 +17,6 @@ use numbers::marks::section_at;
 use slices::Field;
 use slices::field_at;
 use values::Read;
-use values::read_narrow;
 use values::read_signed;
 use values::read_unsigned;
 use values::read_value;
@@ -27,7 +26,6 @@ ghost use mathlib.Core.Bool.{Bool};
 ghost use lib.ListN.{length, replicate};
 ghost use Rattle.slices.specs.Splice.{part};
 ghost use Rattle.numbers.specs.Marks.{same};
-ghost use Rattle.values.specs.Value.{value};
 ghost use Rattle.tables.specs.Lists.{Lists, lists, nth, signals};
 ghost use Rattle.signals.specs.Sections.{field, endMark, eachValue, nextId, changeList, nextTime, snapshot, steps, cycle, entries, directory, oneSection, scanSections};
 ghost use Rattle.rules.specs.Gather.{time, stepEnd};
@@ -202,16 +200,6 @@ fn check_end(s: &[u8], at: usize, mark: &[u8; 4], c: Gathered) -> Part
     passed(check_magic_end(s, at, mark), c)
 }
 
-// The value of a signal, those of one byte without a call.
-fn signal_value(kind: u8, s: &[u8], at: usize) -> Read
-    ensures { λ r. ⌜ r ≡ value kind (now (s .entry)) at ⌝ }
-{
-    if kind <= 4 {
-        return read_narrow(kind, s, at);
-    }
-    read_value(kind, s, at)
-}
-
 fn read_signal_value(
     kinds: &[u8],
     refs: &[u32],
@@ -232,7 +220,7 @@ fn read_signal_value(
     requires { ⌜ Asks (lists (now kinds) (now refs) (now vecs) (now mins) (now maxs) (now states) (now «vec_refs»)) (memOf (now room) (now list) (now events) (now values)) c × (1 ≤ id) × (id ≤ length (now kinds)) ⌝ }
     ensures { λ r. ⌜ Runs (lists (now (kinds .entry)) (now (refs .entry)) (now (vecs .entry)) (now (mins .entry)) (now (maxs .entry)) (now (states .entry)) (now («vec_refs» .entry))) (memOf (now (room .entry)) (now (list .entry)) (now (events .entry)) (now (values .entry))) (memOf (now (room .exit)) (now (list .exit)) (now (events .exit)) (now (values .exit))) c r (oneValue (lists (now (kinds .entry)) (now (refs .entry)) (now (vecs .entry)) (now (mins .entry)) (now (maxs .entry)) (now (states .entry)) (now («vec_refs» .entry))) (now (s .entry)) id at) ⌝ }
 {
-    match signal_value(kind_of(kinds, id), s, at) {
+    match read_value(kind_of(kinds, id), s, at) {
         Read::Value(v, next) => wrote(
             write_value(
                 kinds,

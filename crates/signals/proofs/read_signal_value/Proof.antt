@@ -7,8 +7,8 @@ use Rattle.signals.proofs.read_signal_value.Tie as tie
 kind-of-requires : tie.Need-kind-of-requires
 kind-of-requires c κs = search (value-laws, needs)
 
-signal-value-requires : tie.Need-signal-value-requires
-signal-value-requires c κs = search (value-laws, needs)
+read-value-requires : tie.Need-read-value-requires
+read-value-requires c κs = search (value-laws, needs)
 
 enum-known-v : tie.Need-enum-known-v
 enum-known-v c = search (value-laws, needs)
@@ -45,7 +45,7 @@ read-signal-value-spec =
     tie.close
     (tie.spec
     kind-of-requires
-    signal-value-requires
+    read-value-requires
     enum-known-v
     write-value-requires
     wrote-requires

@@ -89,18 +89,18 @@ module _ (kind : ℕ) (s : List ℕ) (i : ℕ) {r : Read} where
     value-two l e = e ∙ rw (lt-leb kind 1 h, le-leb kind 3 l)
 
     module _ (l : 3 < kind) where
-      pub value-byte : kind ≤ 4 → r ≡ byteUpTo 255 (λ b. b) s i → r ≡ value kind s i
+      pub value-byte : kind ≡ 4 → r ≡ byteUpTo 255 (λ b. b) s i → r ≡ value kind s i
       unfolding value
-      value-byte k e = e ∙ rw (lt-leb kind 1 h, lt-leb kind 3 l, eq-eqb kind 4 (omega arith))
+      value-byte k e = e ∙ rw (lt-leb kind 1 h, lt-leb kind 3 l, eq-eqb kind 4 k)
 
-  module _ (h : 4 < kind) where
-    pub value-integer : kind ≡ 5 → r ≡ signed s i → r ≡ value kind s i
-    unfolding value
-    value-integer j e = e ∙ rw (lt-leb kind 1 (omega arith), lt-leb kind 3 (omega arith), ne-eqb kind 4 (λ k. omega arith), eq-eqb kind 5 j)
+      module _ (k : kind ≡ 4 → ⊥) where
+        pub value-integer : kind ≡ 5 → r ≡ signed s i → r ≡ value kind s i
+        unfolding value
+        value-integer j e = e ∙ rw (lt-leb kind 1 h, lt-leb kind 3 l, ne-eqb kind 4 k, eq-eqb kind 5 j)
 
-    pub value-real : (kind ≡ 5 → ⊥) → r ≡ real s i → r ≡ value kind s i
-    unfolding value
-    value-real j e = e ∙ rw (lt-leb kind 1 (omega arith), lt-leb kind 3 (omega arith), ne-eqb kind 4 (λ k. omega arith), ne-eqb kind 5 j)
+        pub value-real : (kind ≡ 5 → ⊥) → r ≡ real s i → r ≡ value kind s i
+        unfolding value
+        value-real j e = e ∙ rw (lt-leb kind 1 h, lt-leb kind 3 l, ne-eqb kind 4 k, ne-eqb kind 5 j)
 
 -- ---- where what was found ends
 
