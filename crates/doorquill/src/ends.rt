@@ -4,12 +4,10 @@ use gather::Part;
 use records::Counts;
 use slices::clear_bytes;
 use slices::clear_numbers;
-use tables::total_bytes;
 use vecbuffer::fill_starts;
 ghost use mathlib.Core.Path.{_≡_};
 ghost use Prim.Native.Nat.{_≤_};
 ghost use lib.ListN.{length, take, replicate};
-ghost use Rattle.tables.specs.Lists.{lists};
 ghost use Rattle.vecbuffer.specs.Numbers.{Shapes, layoutFrom, filled};
 ghost use Rattle.doorquill.specs.Entries.{answer, accepted, refused, padded, leaves};
 ghost use Rattle.doorquill.specs.Reading.{leftOf, lentOf, Used, report, Ready, endedAt, Finish};
@@ -42,20 +40,36 @@ pub(crate) fn clear_past(out: &mut [u8], used: usize)
     clear_bytes(out, used, out.len() - used);
 }
 
-// All of a working buffer becomes zero.
-fn clear_room(room: &mut [u8])
-    ensures { λ _. ⌜ now (room .exit) ≡ replicate (length (now (room .entry))) 0 ⌝ }
+// What was used of the working buffers becomes zero, the first `n` bytes and the first `v` numbers: there are zeros past them.
+fn clear_used(room: &mut [u8], list: &mut [u32], n: usize, v: usize)
+    requires { ⌜ Used n v (now room) (now list) ⌝ }
+    ensures { λ _. ⌜ (now (room .exit) ≡ replicate (length (now (room .entry))) 0) × (now (list .exit) ≡ replicate (length (now (list .entry))) 0) ⌝ }
 {
-    clear_bytes(room, 0, room.len());
+    clear_bytes(room, 0, n);
+    clear_numbers(list, 0, v);
 }
 
-fn clear_list(list: &mut [u32])
-    ensures { λ _. ⌜ now (list .exit) ≡ replicate (length (now (list .entry))) 0 ⌝ }
+// A refusal: every output becomes zero, and what was used of the working buffers.
+fn refuse_used(
+    events: &mut [u8],
+    values: &mut [u8],
+    room: &mut [u8],
+    list: &mut [u32],
+    n: usize,
+    v: usize,
+    number: u64,
+    place: u64,
+) -> Answer
+    requires { ⌜ Used n v (now room) (now list) ⌝ }
+    ensures { λ r. ⌜ leftOf r (now (events .exit)) (now (values .exit)) (now (room .exit)) (now (list .exit)) ≡ leaves (lentOf (now (events .entry)) (now (values .entry)) (now (room .entry)) (now (list .entry))) (refused number place) ⌝ }
 {
-    clear_numbers(list, 0, list.len());
+    clear_past(events, 0);
+    clear_past(values, 0);
+    clear_used(room, list, n, v);
+    refused(number, place)
 }
 
-// A refusal: every output and working buffer becomes zero.
+// A refusal before a reading begins: anything may stand in the working buffers, so all of them becomes zero.
 pub(crate) fn refuse(
     events: &mut [u8],
     values: &mut [u8],
@@ -66,31 +80,9 @@ pub(crate) fn refuse(
 ) -> Answer
     ensures { λ r. ⌜ leftOf r (now (events .exit)) (now (values .exit)) (now (room .exit)) (now (list .exit)) ≡ leaves (lentOf (now (events .entry)) (now (values .entry)) (now (room .entry)) (now (list .entry))) (refused number place) ⌝ }
 {
-    clear_past(events, 0);
-    clear_past(values, 0);
-    clear_room(room);
-    clear_list(list);
-    refused(number, place)
-}
-
-// What the tables need of the working buffers becomes zero.
-fn clear_used(
-    kinds: &[u8],
-    refs: &[u32],
-    vecs: &[u32],
-    mins: &[u32],
-    maxs: &[u32],
-    states: &[u8],
-    vec_refs: &[u32],
-    room: &mut [u8],
-    list: &mut [u32],
-)
-    requires { ⌜ Used (lists (now kinds) (now refs) (now vecs) (now mins) (now maxs) (now states) (now «vec_refs»)) (now room) (now list) ⌝ }
-    ensures { λ _. ⌜ (now (room .exit) ≡ replicate (length (now (room .entry))) 0) × (now (list .exit) ≡ replicate (length (now (list .entry))) 0) ⌝ }
-{
-    let n = total_bytes(kinds, refs, vecs, mins, maxs, states, vec_refs);
-    clear_bytes(room, 0, n);
-    clear_numbers(list, 0, mins.len());
+    let n = room.len();
+    let v = list.len();
+    refuse_used(events, values, room, list, n, v, number, place)
 }
 
 fn report(read: usize, c: Counts) -> Answer
@@ -108,64 +100,42 @@ fn report(read: usize, c: Counts) -> Answer
 
 // An accepted end: what lies past the reported bytes becomes zero.
 fn accept(
-    kinds: &[u8],
-    refs: &[u32],
-    vecs: &[u32],
-    mins: &[u32],
-    maxs: &[u32],
-    states: &[u8],
-    vec_refs: &[u32],
     events: &mut [u8],
     values: &mut [u8],
     room: &mut [u8],
     list: &mut [u32],
+    n: usize,
+    v: usize,
     read: usize,
     c: Counts,
 ) -> Answer
-    requires { ⌜ Ready (lists (now kinds) (now refs) (now vecs) (now mins) (now maxs) (now states) (now «vec_refs»)) (now room) (now list) (now events) (now values) c ⌝ }
+    requires { ⌜ Ready n v (now room) (now list) (now events) (now values) c ⌝ }
     ensures { λ r. ⌜ leftOf r (now (events .exit)) (now (values .exit)) (now (room .exit)) (now (list .exit)) ≡ leaves (lentOf (now (events .entry)) (now (values .entry)) (now (room .entry)) (now (list .entry))) (accepted read (take (c .events) (now (events .entry))) (take (c .values) (now (values .entry))) (c .steps)) ⌝ }
 {
-    clear_used(kinds, refs, vecs, mins, maxs, states, vec_refs, room, list);
+    clear_used(room, list, n, v);
     clear_past(events, c.events);
     clear_past(values, c.values);
     report(read, c)
 }
 
-// The end of a reading.
+// The end of a reading that used the first `n` bytes and the first `v` numbers.
 pub(crate) fn finish(
-    kinds: &[u8],
-    refs: &[u32],
-    vecs: &[u32],
-    mins: &[u32],
-    maxs: &[u32],
-    states: &[u8],
-    vec_refs: &[u32],
     events: &mut [u8],
     values: &mut [u8],
     room: &mut [u8],
     list: &mut [u32],
+    n: usize,
+    v: usize,
     part: Part,
 ) -> Answer
-    requires { ⌜ Finish (lists (now kinds) (now refs) (now vecs) (now mins) (now maxs) (now states) (now «vec_refs»)) (now room) (now list) (now events) (now values) part ⌝ }
+    requires { ⌜ Finish n v (now room) (now list) (now events) (now values) part ⌝ }
     ensures { λ r. ⌜ leftOf r (now (events .exit)) (now (values .exit)) (now (room .exit)) (now (list .exit)) ≡ leaves (lentOf (now (events .entry)) (now (values .entry)) (now (room .entry)) (now (list .entry))) (endedAt (now (events .entry)) (now (values .entry)) part) ⌝ }
 {
     match part {
-        Part::Went(read, c) => accept(
-            kinds,
-            refs,
-            vecs,
-            mins,
-            maxs,
-            states,
-            vec_refs,
-            events,
-            values,
-            room,
-            list,
-            read,
-            c.counts,
-        ),
-        Part::Out(number, place) => refuse(events, values, room, list, number, widen(place)),
+        Part::Went(read, c) => accept(events, values, room, list, n, v, read, c.counts),
+        Part::Out(number, place) => {
+            refuse_used(events, values, room, list, n, v, number, widen(place))
+        }
     }
 }
 
@@ -174,7 +144,8 @@ pub(crate) fn start(mins: &[u32], maxs: &[u32], states: &[u8], room: &mut [u8], 
     requires { ⌜ Shapes (now mins) (now maxs) (now states) × (length (now mins) ≤ length (now list)) ⌝ }
     ensures { λ _. ⌜ (now (room .exit) ≡ replicate (length (now (room .entry))) 0) × (now (list .exit) ≡ filled (layoutFrom (now (mins .entry)) (now (maxs .entry)) (now (states .entry))) (replicate (length (now (list .entry))) 0) (length (now (mins .entry)))) ⌝ }
 {
-    clear_room(room);
-    clear_list(list);
+    let n = room.len();
+    let v = list.len();
+    clear_used(room, list, n, v);
     fill_starts(mins, maxs, states, list);
 }

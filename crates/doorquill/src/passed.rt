@@ -7,13 +7,14 @@ use gather::Gathered;
 use gather::Part;
 use records::Counts;
 use signals::read_signals;
+use tables::total_bytes;
 ghost use mathlib.Core.Path.{_≡_};
 ghost use lib.ListN.{length};
 ghost use Rattle.tables.specs.Lists.{lists};
+ghost use Rattle.tables.specs.Layout.{layoutOf, totalBytes};
 ghost use Rattle.tables.specs.Checks.{checks};
 ghost use Rattle.tables.specs.declared.Check.the-variants.{Passed};
 ghost use Rattle.gather.specs.Run.{runAll};
-ghost use Rattle.gather.specs.Memory.{memOf};
 ghost use Rattle.gather.specs.Begin.{roomsOf};
 ghost use Rattle.signals.specs.Sections.{scanSections};
 ghost use Rattle.changes.specs.Changes.{scanChanges};
@@ -35,9 +36,10 @@ fn sections_part(
     values: &mut [u8],
     room: &mut [u8],
     list: &mut [u32],
+    n: usize,
 ) -> Part
-    requires { ⌜ checks (lists (now kinds) (now refs) (now vecs) (now mins) (now maxs) (now states) (now «vec_refs»)) (length (now input)) (length (now events)) (length (now values)) (length (now room)) (length (now list)) ≡ Passed ⌝ }
-    ensures { λ r. ⌜ Ended (lists (now (kinds .entry)) (now (refs .entry)) (now (vecs .entry)) (now (mins .entry)) (now (maxs .entry)) (now (states .entry)) (now («vec_refs» .entry))) (roomsOf (now (events .entry)) (now (values .entry))) (memOf (now (room .exit)) (now (list .exit)) (now (events .exit)) (now (values .exit))) r (scanSections (lists (now (kinds .entry)) (now (refs .entry)) (now (vecs .entry)) (now (mins .entry)) (now (maxs .entry)) (now (states .entry)) (now («vec_refs» .entry))) «big_endian» (now (input .entry))) ⌝ }
+    requires { ⌜ (checks (lists (now kinds) (now refs) (now vecs) (now mins) (now maxs) (now states) (now «vec_refs»)) (length (now input)) (length (now events)) (length (now values)) (length (now room)) (length (now list)) ≡ Passed) × (n ≡ totalBytes (layoutOf (lists (now kinds) (now refs) (now vecs) (now mins) (now maxs) (now states) (now «vec_refs»)))) ⌝ }
+    ensures { λ r. ⌜ Ended n (length (now (mins .entry))) (now (room .exit)) (now (list .exit)) (now (events .exit)) (now (values .exit)) r (outcome (runAll (lists (now (kinds .entry)) (now (refs .entry)) (now (vecs .entry)) (now (mins .entry)) (now (maxs .entry)) (now (states .entry)) (now («vec_refs» .entry))) (roomsOf (now (events .entry)) (now (values .entry))) (scanSections (lists (now (kinds .entry)) (now (refs .entry)) (now (vecs .entry)) (now (mins .entry)) (now (maxs .entry)) (now (states .entry)) (now («vec_refs» .entry))) «big_endian» (now (input .entry))))) ⌝ }
 {
     start(mins, maxs, states, room, list);
     let c = Gathered {
@@ -58,8 +60,8 @@ fn sections_part(
         vec_refs,
         big_endian,
         input,
-        room,
-        list,
+        &mut room[..n],
+        &mut list[..mins.len()],
         events,
         values,
         c,
@@ -84,6 +86,7 @@ pub(crate) fn sections_passed(
     requires { ⌜ checks (lists (now kinds) (now refs) (now vecs) (now mins) (now maxs) (now states) (now «vec_refs»)) (length (now input)) (length (now events)) (length (now values)) (length (now room)) (length (now list)) ≡ Passed ⌝ }
     ensures { λ r. ⌜ leftOf r (now (events .exit)) (now (values .exit)) (now (room .exit)) (now (list .exit)) ≡ leaves (lentOf (now (events .entry)) (now (values .entry)) (now (room .entry)) (now (list .entry))) (outcome (runAll (lists (now (kinds .entry)) (now (refs .entry)) (now (vecs .entry)) (now (mins .entry)) (now (maxs .entry)) (now (states .entry)) (now («vec_refs» .entry))) (roomsOf (now (events .entry)) (now (values .entry))) (scanSections (lists (now (kinds .entry)) (now (refs .entry)) (now (vecs .entry)) (now (mins .entry)) (now (maxs .entry)) (now (states .entry)) (now («vec_refs» .entry))) «big_endian» (now (input .entry))))) ⌝ }
 {
+    let n = total_bytes(kinds, refs, vecs, mins, maxs, states, vec_refs);
     let part = sections_part(
         kinds,
         refs,
@@ -98,21 +101,9 @@ pub(crate) fn sections_passed(
         values,
         room,
         list,
+        n,
     );
-    finish(
-        kinds,
-        refs,
-        vecs,
-        mins,
-        maxs,
-        states,
-        vec_refs,
-        events,
-        values,
-        room,
-        list,
-        part,
-    )
+    finish(events, values, room, list, n, mins.len(), part)
 }
 
 // The acts of all change records, over tables that passed their checks.
@@ -129,9 +120,10 @@ fn changes_part(
     values: &mut [u8],
     room: &mut [u8],
     list: &mut [u32],
+    n: usize,
 ) -> Part
-    requires { ⌜ checks (lists (now kinds) (now refs) (now vecs) (now mins) (now maxs) (now states) (now «vec_refs»)) (length (now input)) (length (now events)) (length (now values)) (length (now room)) (length (now list)) ≡ Passed ⌝ }
-    ensures { λ r. ⌜ Ended (lists (now (kinds .entry)) (now (refs .entry)) (now (vecs .entry)) (now (mins .entry)) (now (maxs .entry)) (now (states .entry)) (now («vec_refs» .entry))) (roomsOf (now (events .entry)) (now (values .entry))) (memOf (now (room .exit)) (now (list .exit)) (now (events .exit)) (now (values .exit))) r (scanChanges (lists (now (kinds .entry)) (now (refs .entry)) (now (vecs .entry)) (now (mins .entry)) (now (maxs .entry)) (now (states .entry)) (now («vec_refs» .entry))) (now (input .entry))) ⌝ }
+    requires { ⌜ (checks (lists (now kinds) (now refs) (now vecs) (now mins) (now maxs) (now states) (now «vec_refs»)) (length (now input)) (length (now events)) (length (now values)) (length (now room)) (length (now list)) ≡ Passed) × (n ≡ totalBytes (layoutOf (lists (now kinds) (now refs) (now vecs) (now mins) (now maxs) (now states) (now «vec_refs»)))) ⌝ }
+    ensures { λ r. ⌜ Ended n (length (now (mins .entry))) (now (room .exit)) (now (list .exit)) (now (events .exit)) (now (values .exit)) r (outcome (runAll (lists (now (kinds .entry)) (now (refs .entry)) (now (vecs .entry)) (now (mins .entry)) (now (maxs .entry)) (now (states .entry)) (now («vec_refs» .entry))) (roomsOf (now (events .entry)) (now (values .entry))) (scanChanges (lists (now (kinds .entry)) (now (refs .entry)) (now (vecs .entry)) (now (mins .entry)) (now (maxs .entry)) (now (states .entry)) (now («vec_refs» .entry))) (now (input .entry))))) ⌝ }
 {
     start(mins, maxs, states, room, list);
     let c = Gathered {
@@ -151,8 +143,8 @@ fn changes_part(
         states,
         vec_refs,
         input,
-        room,
-        list,
+        &mut room[..n],
+        &mut list[..mins.len()],
         events,
         values,
         c,
@@ -176,6 +168,7 @@ pub(crate) fn changes_passed(
     requires { ⌜ checks (lists (now kinds) (now refs) (now vecs) (now mins) (now maxs) (now states) (now «vec_refs»)) (length (now input)) (length (now events)) (length (now values)) (length (now room)) (length (now list)) ≡ Passed ⌝ }
     ensures { λ r. ⌜ leftOf r (now (events .exit)) (now (values .exit)) (now (room .exit)) (now (list .exit)) ≡ leaves (lentOf (now (events .entry)) (now (values .entry)) (now (room .entry)) (now (list .entry))) (outcome (runAll (lists (now (kinds .entry)) (now (refs .entry)) (now (vecs .entry)) (now (mins .entry)) (now (maxs .entry)) (now (states .entry)) (now («vec_refs» .entry))) (roomsOf (now (events .entry)) (now (values .entry))) (scanChanges (lists (now (kinds .entry)) (now (refs .entry)) (now (vecs .entry)) (now (mins .entry)) (now (maxs .entry)) (now (states .entry)) (now («vec_refs» .entry))) (now (input .entry))))) ⌝ }
 {
+    let n = total_bytes(kinds, refs, vecs, mins, maxs, states, vec_refs);
     let part = changes_part(
         kinds,
         refs,
@@ -189,19 +182,7 @@ pub(crate) fn changes_passed(
         values,
         room,
         list,
+        n,
     );
-    finish(
-        kinds,
-        refs,
-        vecs,
-        mins,
-        maxs,
-        states,
-        vec_refs,
-        events,
-        values,
-        room,
-        list,
-        part,
-    )
+    finish(events, values, room, list, n, mins.len(), part)
 }

@@ -4,9 +4,6 @@ use borrow.Author.Needs.{needs}
 use Rattle.doorquill.proofs.ends.clear_used.Statement.{statement}
 use Rattle.doorquill.proofs.ends.clear_used.Tie as tie
 
-total-bytes-requires : tie.Need-total-bytes-requires
-total-bytes-requires c κs = search (used-laws, needs)
-
 clear-bytes-requires : tie.Need-clear-bytes-requires
 clear-bytes-requires c κs = search (used-laws, needs)
 
@@ -25,10 +22,4 @@ returns c = search (used-laws, needs)
 pub clear-used-spec : {M : Type 1} → statement M
 clear-used-spec =
     tie.close
-    (tie.spec
-    total-bytes-requires
-    clear-bytes-requires
-    clear-numbers-requires
-    same-length
-    same-length-2
-    returns)
+    (tie.spec clear-bytes-requires clear-numbers-requires same-length same-length-2 returns)

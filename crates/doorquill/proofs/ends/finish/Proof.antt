@@ -16,8 +16,8 @@ enum-known-part-2 c = search (finish-laws, needs)
 widen-requires : tie.Need-widen-requires
 widen-requires c κs = search (finish-laws, needs)
 
-refuse-requires : tie.Need-refuse-requires
-refuse-requires c κs = search (finish-laws, needs)
+refuse-used-requires : tie.Need-refuse-used-requires
+refuse-used-requires c κs = search (finish-laws, needs)
 
 same-length : tie.Need-same-length
 same-length c = search (finish-laws, needs)
@@ -57,7 +57,7 @@ finish-spec =
     accept-requires
     enum-known-part-2
     widen-requires
-    refuse-requires
+    refuse-used-requires
     same-length
     same-length-2
     same-length-3

@@ -4,20 +4,8 @@ use borrow.Author.Needs.{needs}
 use Rattle.doorquill.proofs.ends.refuse.Statement.{statement}
 use Rattle.doorquill.proofs.ends.refuse.Tie as tie
 
-clear-past-requires : tie.Need-clear-past-requires
-clear-past-requires c κs = search (refused-laws, needs)
-
-clear-past-requires-2 : tie.Need-clear-past-requires-2
-clear-past-requires-2 c κs = search (refused-laws, needs)
-
-clear-room-requires : tie.Need-clear-room-requires
-clear-room-requires c κs = search (refused-laws, needs)
-
-clear-list-requires : tie.Need-clear-list-requires
-clear-list-requires c κs = search (refused-laws, needs)
-
-refused-requires : tie.Need-refused-requires
-refused-requires c κs = search (refused-laws, needs)
+refuse-used-requires : tie.Need-refuse-used-requires
+refuse-used-requires c κs = search (refused-laws, needs)
 
 same-length : tie.Need-same-length
 same-length c = search (refused-laws, needs)
@@ -37,14 +25,4 @@ returns c = search (refused-laws, needs)
 pub refuse-spec : {M : Type 1} → statement M
 refuse-spec =
     tie.close
-    (tie.spec
-    clear-past-requires
-    clear-past-requires-2
-    clear-room-requires
-    clear-list-requires
-    refused-requires
-    same-length
-    same-length-2
-    same-length-3
-    same-length-4
-    returns)
+    (tie.spec refuse-used-requires same-length same-length-2 same-length-3 same-length-4 returns)

@@ -4,11 +4,8 @@ use borrow.Author.Needs.{needs}
 use Rattle.doorquill.proofs.ends.start.Statement.{statement}
 use Rattle.doorquill.proofs.ends.start.Tie as tie
 
-clear-room-requires : tie.Need-clear-room-requires
-clear-room-requires c κs = search (start-laws, needs)
-
-clear-list-requires : tie.Need-clear-list-requires
-clear-list-requires c κs = search (start-laws, needs)
+clear-used-requires : tie.Need-clear-used-requires
+clear-used-requires c κs = search (start-laws, needs)
 
 fill-starts-requires : tie.Need-fill-starts-requires
 fill-starts-requires c κs = search (start-laws, needs)
@@ -24,11 +21,4 @@ returns c = search (start-laws, needs)
 
 pub start-spec : {M : Type 1} → statement M
 start-spec =
-    tie.close
-    (tie.spec
-    clear-room-requires
-    clear-list-requires
-    fill-starts-requires
-    same-length
-    same-length-2
-    returns)
+    tie.close (tie.spec clear-used-requires fill-starts-requires same-length same-length-2 returns)

@@ -1,14 +1,17 @@
 -- `doorquill::passed::changes_passed` meets its contract: each need follows from `passed-laws`. Assumes nothing.
-use Rattle.doorquill.specs.Begin.{passed-laws, passed-finish}
+use Rattle.doorquill.specs.Begin.{passed-laws, ask-total}
 use borrow.Author.Needs.{needs}
 use Rattle.doorquill.proofs.passed.changes_passed.Statement.{statement}
 use Rattle.doorquill.proofs.passed.changes_passed.Tie as tie
+
+total-bytes-requires : tie.Need-total-bytes-requires
+total-bytes-requires c κs = ask-total _ _ _ _ _ _ (c .before .before .before .before .before .before .before .before .before .before .before .before .pre)
 
 changes-part-requires : tie.Need-changes-part-requires
 changes-part-requires c κs = search (passed-laws, needs)
 
 finish-requires : tie.Need-finish-requires
-finish-requires c κs = passed-finish (c .before .before .before .before .before .before .before .before .before .before .before .before .changes-part .ensures) _ _ _ _ _ (c .before .before .before .before .before .before .before .before .before .before .before .before .before .before .before .before .before .before .before .before .before .before .before .before .before .before .before .before .before .pre)
+finish-requires c κs = search (passed-laws, needs)
 
 same-length : tie.Need-same-length
 same-length c = search (passed-laws, needs)
@@ -29,6 +32,7 @@ pub changes-passed-spec : {M : Type 1} → statement M
 changes-passed-spec =
     tie.close
     (tie.spec
+    total-bytes-requires
     changes-part-requires
     finish-requires
     same-length
