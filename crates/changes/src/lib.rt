@@ -4,11 +4,12 @@ use gather::Part;
 use gather::Wrote;
 use gather::finish_time_step;
 use gather::time_change;
-use gather::write_value;
 use numbers::house::get_u32;
 use numbers::house::get_u64;
+use signals::Source;
+use signals::read_signal_values;
 use values::Read;
-use values::read_value;
+use values::read_narrow;
 ghost use mathlib.Core.Path.{_≡_};
 ghost use Prim.Native.Nat.{_+_, _≤_, _<_};
 ghost use lib.ListN.{length};
@@ -76,7 +77,7 @@ fn byte_write(kinds: &[u8], s: &[u8], id: usize, at: usize) -> Change
     if 4 < kind {
         return Change::Bad(19, at);
     }
-    match read_value(kind, s, value_at) {
+    match read_narrow(kind, s, value_at) {
         Read::Value(value, next) => Change::Write { id, value, next },
         Read::Bad(number, place) => Change::Bad(number, place),
     }
@@ -185,7 +186,7 @@ fn acted(inside: bool, next: usize, w: Wrote) -> Turn
     }
 }
 
-// A write whose record ends at `next`.
+// The write of a record from `at` to `next`.
 fn write_change(
     kinds: &[u8],
     refs: &[u32],
@@ -194,6 +195,7 @@ fn write_change(
     maxs: &[u32],
     states: &[u8],
     vec_refs: &[u32],
+    s: &[u8],
     room: &mut [u8],
     list: &mut [u32],
     events: &mut [u8],
@@ -201,12 +203,14 @@ fn write_change(
     c: Gathered,
     id: usize,
     value: u64,
+    at: usize,
     next: usize,
 ) -> Turn
     requires { ⌜ Writable (lists (now kinds) (now refs) (now vecs) (now mins) (now maxs) (now states) (now «vec_refs»)) (memOf (now room) (now list) (now events) (now values)) c id value ⌝ }
-    ensures { λ r. ⌜ Written (lists (now (kinds .entry)) (now (refs .entry)) (now (vecs .entry)) (now (mins .entry)) (now (maxs .entry)) (now (states .entry)) (now («vec_refs» .entry))) (memOf (now (room .entry)) (now (list .entry)) (now (events .entry)) (now (values .entry))) (memOf (now (room .exit)) (now (list .exit)) (now (events .exit)) (now (values .exit))) c id value next r ⌝ }
+    ensures { λ r. ⌜ Written (lists (now (kinds .entry)) (now (refs .entry)) (now (vecs .entry)) (now (mins .entry)) (now (maxs .entry)) (now (states .entry)) (now («vec_refs» .entry))) (memOf (now (room .entry)) (now (list .entry)) (now (events .entry)) (now (values .entry))) (memOf (now (room .exit)) (now (list .exit)) (now (events .exit)) (now (values .exit))) c id value at next r ⌝ }
 {
-    let w = write_value(
+    match read_signal_values(
+        Source::One(id, value),
         kinds,
         refs,
         vecs,
@@ -214,15 +218,21 @@ fn write_change(
         maxs,
         states,
         vec_refs,
+        s,
         room,
         list,
         events,
         values,
         c,
-        id,
-        value,
-    );
-    acted(true, next, w)
+        at,
+    ) {
+        Part::Went(_, g) => Turn::More {
+            inside: true,
+            next,
+            c: g,
+        },
+        Part::Out(_, _) => Turn::Over(Part::Out(16, next)),
+    }
 }
 
 // One record, and what it does.
@@ -256,6 +266,7 @@ fn one_record(
             maxs,
             states,
             vec_refs,
+            s,
             room,
             list,
             events,
@@ -263,6 +274,7 @@ fn one_record(
             c,
             id,
             value,
+            at,
             next,
         ),
         Change::StepEnd(next) => acted(

@@ -1,15 +1,19 @@
 -- Parts of sections, as scans of their own, and what code answers after each.
 -- Assumes nothing.
-use Prim.Native.Nat.{ℕ}
+use Prim.Native.Nat.{ℕ, _+_, _≤_}
 use mathlib.Core.Bool.{Bool, true, false, cond}
 use mathlib.Core.List.{List, []}
+use lib.ListN.{length}
+use lib.Dec.{ltb, eqb}
 use Rattle.slices.specs.Splice.{part}
 use Rattle.numbers.specs.Fixed.{fixed, negative}
 use Rattle.numbers.specs.Marks.{esn}
 use Rattle.numbers.specs.declared.marks.Section.{Section}
 use Rattle.numbers.specs.declared.marks.Section.the-variants.{Snapshot, Cycle, Directory, Tailer, Unknown}
 use Rattle.tables.specs.Lists.{Lists, lists, nth, signals}
-use Rattle.values.specs.Value.{value}
+use Rattle.values.specs.declared.Read.{Read}
+use Rattle.values.specs.declared.Read.the-variants.{Value}
+use Rattle.values.specs.Value.{value, Suits}
 use Rattle.rules.specs.Gather.{time, write, stepEnd}
 use Rattle.gather.specs.Memory.{Mem, memOf}
 use Rattle.gather.specs.Follows.{Runs}
@@ -19,9 +23,13 @@ use Rattle.gather.specs.declared.Wrote.{Wrote}
 use Rattle.gather.specs.declared.Wrote.the-variants.{Done, Full}
 use Rattle.gather.specs.declared.Part.{Part}
 use Rattle.gather.specs.declared.Part.the-variants.{Went, Out}
-use Rattle.signals.specs.Sections.{then, field, endMark, eachValue}
+use Rattle.signals.specs.Sections.{then, field, endMark, eachValue, nextId, changeList}
 use Rattle.signals.specs.declared.Place.{Place}
 use Rattle.signals.specs.declared.Place.the-variants.{At, Bad}
+use Rattle.signals.specs.declared.NextId.{NextId}
+use Rattle.signals.specs.declared.NextId.the-variants.{Id, End}
+use Rattle.signals.specs.declared.Source.{Source}
+use Rattle.signals.specs.declared.Source.the-variants.{Each, Listed, One}
 
 -- tables of signals of these kinds: of tables, ids are judged by the number of signals alone
 abbrev pub withKinds : List ℕ → Lists
@@ -45,9 +53,44 @@ unfoldable pub partOf : ℕ → Wrote → Part
 partOf i (Done c) = Went i c
 partOf i Full = Out 16 i
 
+-- ---- values, by where they stand
+
+abbrev pub nextOf : Source → Lists → List ℕ → (id i : ℕ) → NextId
+nextOf Each t s id i = cond (ltb id (signals t)) (Id (id + 1) i) (End i)
+nextOf Listed t s id i = nextId t s id i
+nextOf (One o v) t s id i = cond (eqb id 0) (Id o i) (End i)
+
+abbrev pub valueOf : Source → (kinds s : List ℕ) → (id i : ℕ) → Read
+valueOf Each kinds s id i = value (nth kinds id) s i
+valueOf Listed kinds s id i = value (nth kinds id) s i
+valueOf (One o v) kinds s id i = Value v i
+
 -- the value of a signal
-unfoldable pub oneValue : Lists → List ℕ → (id i : ℕ) → Scan
-oneValue t s id i = then (value (nth (t .kinds) id) s i) (λ v j. say (write id v i) j (done j))
+unfoldable pub oneValue : Source → Lists → List ℕ → (id i : ℕ) → Scan
+oneValue src t s id i = then (valueOf src (t .kinds) s id i) (λ v j. say (write id v i) j (done j))
+
+-- all of them
+abbrev pub writesOf : Source → Lists → List ℕ → ℕ → Scan
+writesOf Each t s i = eachValue t s (signals t) 1 i
+writesOf Listed t s i = changeList t s (length s) 0 i
+writesOf (One o v) t s i = say (write o v i) i (done i)
+
+-- a value that was read already suits its signal
+abbrev FitsOf : Source → Lists → ℕ → Type 0
+FitsOf Each t id = Unit {0}
+FitsOf Listed t id = Unit {0}
+FitsOf (One o v) t id = Suits (nth (t .kinds) id) v
+
+pub record Fits (src : Source) (t : Lists) (id : ℕ) : Type 0 where
+  pub fits : FitsOf src t id
+
+abbrev GivenOf : Source → Lists → Type 0
+GivenOf Each t = Unit {0}
+GivenOf Listed t = Unit {0}
+GivenOf (One o v) t = (1 ≤ o) × (o ≤ length (t .kinds)) × Suits (nth (t .kinds) o) v
+
+pub record Given (src : Source) (t : Lists) : Type 0 where
+  pub given : GivenOf src t
 
 -- a step: its time, what it changes, its end
 unfoldable pub toEnd : Scan → Scan

@@ -27,18 +27,25 @@ ghost use lib.ListN.{length, replicate};
 ghost use Rattle.slices.specs.Splice.{part};
 ghost use Rattle.numbers.specs.Marks.{same};
 ghost use Rattle.tables.specs.Lists.{Lists, lists, nth, signals};
-ghost use Rattle.signals.specs.Sections.{field, endMark, eachValue, nextId, changeList, nextTime, snapshot, steps, cycle, entries, directory, oneSection, scanSections};
+ghost use Rattle.signals.specs.Sections.{field, endMark, nextId, nextTime, snapshot, steps, cycle, entries, directory, oneSection, scanSections};
 ghost use Rattle.rules.specs.Gather.{time, stepEnd};
 ghost use Rattle.gather.specs.Run.{say, done};
 ghost use Rattle.gather.specs.Memory.{memOf, Roomy};
 ghost use Rattle.gather.specs.Follows.{Asks, Runs};
-ghost use Rattle.signals.specs.Parts.{withKinds, scanOf, passedOf, oneEntry, partOf, oneValue, toEnd, aStep, snapshotBody, isTailer, Begins, Passes};
+ghost use Rattle.signals.specs.Parts.{withKinds, nextOf, valueOf, Fits, Given, writesOf, scanOf, passedOf, oneEntry, partOf, oneValue, toEnd, aStep, snapshotBody, isTailer, Begins, Passes};
 
 // The next id of a change list and the place after its delta, or the list's end, or a refusal.
 pub enum NextId {
     Id(usize, usize),
     End(usize),
     Bad(u64, usize),
+}
+
+// Where values stand: a value for each id, a change list, or one value that was read already, of a change record.
+pub enum Source {
+    Each,
+    Listed,
+    One(usize, u64),
 }
 
 // The next time of a cycle and the place after its delta, or the cycle's end, or a refusal.
@@ -200,7 +207,44 @@ fn check_end(s: &[u8], at: usize, mark: &[u8; 4], c: Gathered) -> Part
     passed(check_magic_end(s, at, mark), c)
 }
 
+// The next id of a source.
+fn next_of(source: Source, kinds: &[u8], s: &[u8], id: usize, at: usize) -> NextId
+    requires { ⌜ id ≤ length (now kinds) ⌝ }
+    ensures { λ r. ⌜ r ≡ nextOf source (withKinds (now (kinds .entry))) (now (s .entry)) id at ⌝ }
+{
+    match source {
+        Source::Each => {
+            if id < kinds.len() {
+                NextId::Id(id + 1, at)
+            } else {
+                NextId::End(at)
+            }
+        }
+        Source::Listed => next_id(kinds, s, id, at),
+        Source::One(one, _) => {
+            if id == 0 {
+                NextId::Id(one, at)
+            } else {
+                NextId::End(at)
+            }
+        }
+    }
+}
+
+// The value of a signal, from a source.
+fn value_of(source: Source, kinds: &[u8], s: &[u8], id: usize, at: usize) -> Read
+    requires { ⌜ (1 ≤ id) × (id ≤ length (now kinds)) ⌝ }
+    ensures { λ r. ⌜ r ≡ valueOf source (now (kinds .entry)) (now (s .entry)) id at ⌝ }
+{
+    match source {
+        Source::Each => read_value(kind_of(kinds, id), s, at),
+        Source::Listed => read_value(kind_of(kinds, id), s, at),
+        Source::One(_, value) => Read::Value(value, at),
+    }
+}
+
 fn read_signal_value(
+    source: Source,
     kinds: &[u8],
     refs: &[u32],
     vecs: &[u32],
@@ -217,10 +261,10 @@ fn read_signal_value(
     id: usize,
     at: usize,
 ) -> Part
-    requires { ⌜ Asks (lists (now kinds) (now refs) (now vecs) (now mins) (now maxs) (now states) (now «vec_refs»)) (memOf (now room) (now list) (now events) (now values)) c × (1 ≤ id) × (id ≤ length (now kinds)) ⌝ }
-    ensures { λ r. ⌜ Runs (lists (now (kinds .entry)) (now (refs .entry)) (now (vecs .entry)) (now (mins .entry)) (now (maxs .entry)) (now (states .entry)) (now («vec_refs» .entry))) (memOf (now (room .entry)) (now (list .entry)) (now (events .entry)) (now (values .entry))) (memOf (now (room .exit)) (now (list .exit)) (now (events .exit)) (now (values .exit))) c r (oneValue (lists (now (kinds .entry)) (now (refs .entry)) (now (vecs .entry)) (now (mins .entry)) (now (maxs .entry)) (now (states .entry)) (now («vec_refs» .entry))) (now (s .entry)) id at) ⌝ }
+    requires { ⌜ Asks (lists (now kinds) (now refs) (now vecs) (now mins) (now maxs) (now states) (now «vec_refs»)) (memOf (now room) (now list) (now events) (now values)) c × (1 ≤ id) × (id ≤ length (now kinds)) × Fits source (lists (now kinds) (now refs) (now vecs) (now mins) (now maxs) (now states) (now «vec_refs»)) id ⌝ }
+    ensures { λ r. ⌜ Runs (lists (now (kinds .entry)) (now (refs .entry)) (now (vecs .entry)) (now (mins .entry)) (now (maxs .entry)) (now (states .entry)) (now («vec_refs» .entry))) (memOf (now (room .entry)) (now (list .entry)) (now (events .entry)) (now (values .entry))) (memOf (now (room .exit)) (now (list .exit)) (now (events .exit)) (now (values .exit))) c r (oneValue source (lists (now (kinds .entry)) (now (refs .entry)) (now (vecs .entry)) (now (mins .entry)) (now (maxs .entry)) (now (states .entry)) (now («vec_refs» .entry))) (now (s .entry)) id at) ⌝ }
 {
-    match read_value(kind_of(kinds, id), s, at) {
+    match value_of(source, kinds, s, id, at) {
         Read::Value(v, next) => wrote(
             write_value(
                 kinds,
@@ -244,8 +288,9 @@ fn read_signal_value(
     }
 }
 
-// A value for each id.
-fn read_values(
+// The values of a source: the one place where values are written, so that the compiler makes one loop of the reader and the gatherer.
+pub fn read_signal_values(
+    source: Source,
     kinds: &[u8],
     refs: &[u32],
     vecs: &[u32],
@@ -261,70 +306,17 @@ fn read_values(
     c: Gathered,
     at: usize,
 ) -> Part
-    requires { ⌜ Asks (lists (now kinds) (now refs) (now vecs) (now mins) (now maxs) (now states) (now «vec_refs»)) (memOf (now room) (now list) (now events) (now values)) c ⌝ }
-    ensures { λ r. ⌜ Runs (lists (now (kinds .entry)) (now (refs .entry)) (now (vecs .entry)) (now (mins .entry)) (now (maxs .entry)) (now (states .entry)) (now («vec_refs» .entry))) (memOf (now (room .entry)) (now (list .entry)) (now (events .entry)) (now (values .entry))) (memOf (now (room .exit)) (now (list .exit)) (now (events .exit)) (now (values .exit))) c r (eachValue (lists (now (kinds .entry)) (now (refs .entry)) (now (vecs .entry)) (now (mins .entry)) (now (maxs .entry)) (now (states .entry)) (now («vec_refs» .entry))) (now (s .entry)) (signals (lists (now (kinds .entry)) (now (refs .entry)) (now (vecs .entry)) (now (mins .entry)) (now (maxs .entry)) (now (states .entry)) (now («vec_refs» .entry)))) 1 at) ⌝ }
-{
-    let mut k: usize = 0;
-    let mut i = at;
-    let mut g = c;
-    while k < kinds.len() {
-        let id = k + 1;
-        match read_signal_value(
-            kinds,
-            refs,
-            vecs,
-            mins,
-            maxs,
-            states,
-            vec_refs,
-            s,
-            room,
-            list,
-            events,
-            values,
-            g,
-            id,
-            i,
-        ) {
-            Part::Went(next, more) => {
-                k = id;
-                i = next;
-                g = more;
-            }
-            Part::Out(n, p) => {
-                return Part::Out(n, p);
-            }
-        }
-    }
-    Part::Went(i, g)
-}
-
-fn read_cycle_signals(
-    kinds: &[u8],
-    refs: &[u32],
-    vecs: &[u32],
-    mins: &[u32],
-    maxs: &[u32],
-    states: &[u8],
-    vec_refs: &[u32],
-    s: &[u8],
-    room: &mut [u8],
-    list: &mut [u32],
-    events: &mut [u8],
-    values: &mut [u8],
-    c: Gathered,
-    at: usize,
-) -> Part
-    requires { ⌜ Asks (lists (now kinds) (now refs) (now vecs) (now mins) (now maxs) (now states) (now «vec_refs»)) (memOf (now room) (now list) (now events) (now values)) c ⌝ }
-    ensures { λ r. ⌜ Runs (lists (now (kinds .entry)) (now (refs .entry)) (now (vecs .entry)) (now (mins .entry)) (now (maxs .entry)) (now (states .entry)) (now («vec_refs» .entry))) (memOf (now (room .entry)) (now (list .entry)) (now (events .entry)) (now (values .entry))) (memOf (now (room .exit)) (now (list .exit)) (now (events .exit)) (now (values .exit))) c r (changeList (lists (now (kinds .entry)) (now (refs .entry)) (now (vecs .entry)) (now (mins .entry)) (now (maxs .entry)) (now (states .entry)) (now («vec_refs» .entry))) (now (s .entry)) (length (now (s .entry))) 0 at) ⌝ }
+    requires { ⌜ Asks (lists (now kinds) (now refs) (now vecs) (now mins) (now maxs) (now states) (now «vec_refs»)) (memOf (now room) (now list) (now events) (now values)) c × Given source (lists (now kinds) (now refs) (now vecs) (now mins) (now maxs) (now states) (now «vec_refs»)) ⌝ }
+    ensures { λ r. ⌜ Runs (lists (now (kinds .entry)) (now (refs .entry)) (now (vecs .entry)) (now (mins .entry)) (now (maxs .entry)) (now (states .entry)) (now («vec_refs» .entry))) (memOf (now (room .entry)) (now (list .entry)) (now (events .entry)) (now (values .entry))) (memOf (now (room .exit)) (now (list .exit)) (now (events .exit)) (now (values .exit))) c r (writesOf source (lists (now (kinds .entry)) (now (refs .entry)) (now (vecs .entry)) (now (mins .entry)) (now (maxs .entry)) (now (states .entry)) (now («vec_refs» .entry))) (now (s .entry)) at) ⌝ }
 {
     let mut id: usize = 0;
     let mut i = at;
     let mut g = c;
     loop {
-        match next_id(kinds, s, id, i) {
+        match next_of(source, kinds, s, id, i) {
             NextId::Id(found, next) => {
                 match read_signal_value(
+                    source,
                     kinds,
                     refs,
                     vecs,
@@ -407,8 +399,9 @@ fn end_step(
     )
 }
 
-// The changes of a step of a cycle, and its end.
-fn read_cycle_changes(
+// The values of a step, and its end.
+fn read_step_values(
+    source: Source,
     kinds: &[u8],
     refs: &[u32],
     vecs: &[u32],
@@ -424,10 +417,11 @@ fn read_cycle_changes(
     c: Gathered,
     at: usize,
 ) -> Part
-    requires { ⌜ Asks (lists (now kinds) (now refs) (now vecs) (now mins) (now maxs) (now states) (now «vec_refs»)) (memOf (now room) (now list) (now events) (now values)) c ⌝ }
-    ensures { λ r. ⌜ Runs (lists (now (kinds .entry)) (now (refs .entry)) (now (vecs .entry)) (now (mins .entry)) (now (maxs .entry)) (now (states .entry)) (now («vec_refs» .entry))) (memOf (now (room .entry)) (now (list .entry)) (now (events .entry)) (now (values .entry))) (memOf (now (room .exit)) (now (list .exit)) (now (events .exit)) (now (values .exit))) c r (toEnd (changeList (lists (now (kinds .entry)) (now (refs .entry)) (now (vecs .entry)) (now (mins .entry)) (now (maxs .entry)) (now (states .entry)) (now («vec_refs» .entry))) (now (s .entry)) (length (now (s .entry))) 0 at)) ⌝ }
+    requires { ⌜ Asks (lists (now kinds) (now refs) (now vecs) (now mins) (now maxs) (now states) (now «vec_refs»)) (memOf (now room) (now list) (now events) (now values)) c × Given source (lists (now kinds) (now refs) (now vecs) (now mins) (now maxs) (now states) (now «vec_refs»)) ⌝ }
+    ensures { λ r. ⌜ Runs (lists (now (kinds .entry)) (now (refs .entry)) (now (vecs .entry)) (now (mins .entry)) (now (maxs .entry)) (now (states .entry)) (now («vec_refs» .entry))) (memOf (now (room .entry)) (now (list .entry)) (now (events .entry)) (now (values .entry))) (memOf (now (room .exit)) (now (list .exit)) (now (events .exit)) (now (values .exit))) c r (toEnd (writesOf source (lists (now (kinds .entry)) (now (refs .entry)) (now (vecs .entry)) (now (mins .entry)) (now (maxs .entry)) (now (states .entry)) (now («vec_refs» .entry))) (now (s .entry)) at)) ⌝ }
 {
-    match read_cycle_signals(
+    match read_signal_values(
+        source,
         kinds,
         refs,
         vecs,
@@ -462,8 +456,9 @@ fn read_cycle_changes(
     }
 }
 
-// A step of a cycle.
-fn read_cycle_step(
+// A step.
+fn read_step(
+    source: Source,
     kinds: &[u8],
     refs: &[u32],
     vecs: &[u32],
@@ -480,108 +475,12 @@ fn read_cycle_step(
     u: u64,
     at: usize,
 ) -> Part
-    requires { ⌜ Asks (lists (now kinds) (now refs) (now vecs) (now mins) (now maxs) (now states) (now «vec_refs»)) (memOf (now room) (now list) (now events) (now values)) c ⌝ }
-    ensures { λ r. ⌜ Runs (lists (now (kinds .entry)) (now (refs .entry)) (now (vecs .entry)) (now (mins .entry)) (now (maxs .entry)) (now (states .entry)) (now («vec_refs» .entry))) (memOf (now (room .entry)) (now (list .entry)) (now (events .entry)) (now (values .entry))) (memOf (now (room .exit)) (now (list .exit)) (now (events .exit)) (now (values .exit))) c r (aStep u at (changeList (lists (now (kinds .entry)) (now (refs .entry)) (now (vecs .entry)) (now (mins .entry)) (now (maxs .entry)) (now (states .entry)) (now («vec_refs» .entry))) (now (s .entry)) (length (now (s .entry))) 0)) ⌝ }
+    requires { ⌜ Asks (lists (now kinds) (now refs) (now vecs) (now mins) (now maxs) (now states) (now «vec_refs»)) (memOf (now room) (now list) (now events) (now values)) c × Given source (lists (now kinds) (now refs) (now vecs) (now mins) (now maxs) (now states) (now «vec_refs»)) ⌝ }
+    ensures { λ r. ⌜ Runs (lists (now (kinds .entry)) (now (refs .entry)) (now (vecs .entry)) (now (mins .entry)) (now (maxs .entry)) (now (states .entry)) (now («vec_refs» .entry))) (memOf (now (room .entry)) (now (list .entry)) (now (events .entry)) (now (values .entry))) (memOf (now (room .exit)) (now (list .exit)) (now (events .exit)) (now (values .exit))) c r (aStep u at (writesOf source (lists (now (kinds .entry)) (now (refs .entry)) (now (vecs .entry)) (now (mins .entry)) (now (maxs .entry)) (now (states .entry)) (now («vec_refs» .entry))) (now (s .entry)))) ⌝ }
 {
     match begin_step(events, values, c, u, at) {
-        Part::Went(begun, g) => read_cycle_changes(
-            kinds,
-            refs,
-            vecs,
-            mins,
-            maxs,
-            states,
-            vec_refs,
-            s,
-            room,
-            list,
-            events,
-            values,
-            g,
-            begun,
-        ),
-        Part::Out(n, p) => Part::Out(n, p),
-    }
-}
-
-// The values of a snapshot, and the end of its step.
-fn read_snapshot_values(
-    kinds: &[u8],
-    refs: &[u32],
-    vecs: &[u32],
-    mins: &[u32],
-    maxs: &[u32],
-    states: &[u8],
-    vec_refs: &[u32],
-    s: &[u8],
-    room: &mut [u8],
-    list: &mut [u32],
-    events: &mut [u8],
-    values: &mut [u8],
-    c: Gathered,
-    at: usize,
-) -> Part
-    requires { ⌜ Asks (lists (now kinds) (now refs) (now vecs) (now mins) (now maxs) (now states) (now «vec_refs»)) (memOf (now room) (now list) (now events) (now values)) c ⌝ }
-    ensures { λ r. ⌜ Runs (lists (now (kinds .entry)) (now (refs .entry)) (now (vecs .entry)) (now (mins .entry)) (now (maxs .entry)) (now (states .entry)) (now («vec_refs» .entry))) (memOf (now (room .entry)) (now (list .entry)) (now (events .entry)) (now (values .entry))) (memOf (now (room .exit)) (now (list .exit)) (now (events .exit)) (now (values .exit))) c r (toEnd (eachValue (lists (now (kinds .entry)) (now (refs .entry)) (now (vecs .entry)) (now (mins .entry)) (now (maxs .entry)) (now (states .entry)) (now («vec_refs» .entry))) (now (s .entry)) (signals (lists (now (kinds .entry)) (now (refs .entry)) (now (vecs .entry)) (now (mins .entry)) (now (maxs .entry)) (now (states .entry)) (now («vec_refs» .entry)))) 1 at)) ⌝ }
-{
-    match read_values(
-        kinds,
-        refs,
-        vecs,
-        mins,
-        maxs,
-        states,
-        vec_refs,
-        s,
-        room,
-        list,
-        events,
-        values,
-        c,
-        at,
-    ) {
-        Part::Went(next, g) => end_step(
-            kinds,
-            refs,
-            vecs,
-            mins,
-            maxs,
-            states,
-            vec_refs,
-            room,
-            list,
-            events,
-            values,
-            g,
-            next,
-        ),
-        Part::Out(n, p) => Part::Out(n, p),
-    }
-}
-
-// The step of a snapshot.
-fn read_snapshot_step(
-    kinds: &[u8],
-    refs: &[u32],
-    vecs: &[u32],
-    mins: &[u32],
-    maxs: &[u32],
-    states: &[u8],
-    vec_refs: &[u32],
-    s: &[u8],
-    room: &mut [u8],
-    list: &mut [u32],
-    events: &mut [u8],
-    values: &mut [u8],
-    c: Gathered,
-    u: u64,
-    at: usize,
-) -> Part
-    requires { ⌜ Asks (lists (now kinds) (now refs) (now vecs) (now mins) (now maxs) (now states) (now «vec_refs»)) (memOf (now room) (now list) (now events) (now values)) c ⌝ }
-    ensures { λ r. ⌜ Runs (lists (now (kinds .entry)) (now (refs .entry)) (now (vecs .entry)) (now (mins .entry)) (now (maxs .entry)) (now (states .entry)) (now («vec_refs» .entry))) (memOf (now (room .entry)) (now (list .entry)) (now (events .entry)) (now (values .entry))) (memOf (now (room .exit)) (now (list .exit)) (now (events .exit)) (now (values .exit))) c r (aStep u at (eachValue (lists (now (kinds .entry)) (now (refs .entry)) (now (vecs .entry)) (now (mins .entry)) (now (maxs .entry)) (now (states .entry)) (now («vec_refs» .entry))) (now (s .entry)) (signals (lists (now (kinds .entry)) (now (refs .entry)) (now (vecs .entry)) (now (mins .entry)) (now (maxs .entry)) (now (states .entry)) (now («vec_refs» .entry)))) 1)) ⌝ }
-{
-    match begin_step(events, values, c, u, at) {
-        Part::Went(begun, g) => read_snapshot_values(
+        Part::Went(begun, g) => read_step_values(
+            source,
             kinds,
             refs,
             vecs,
@@ -626,7 +525,8 @@ fn read_steps(
     let mut i = at;
     let mut g = c;
     loop {
-        match read_cycle_step(
+        match read_step(
+            Source::Listed,
             kinds,
             refs,
             vecs,
@@ -729,7 +629,8 @@ fn read_snapshot_body(
     requires { ⌜ Asks (lists (now kinds) (now refs) (now vecs) (now mins) (now maxs) (now states) (now «vec_refs»)) (memOf (now room) (now list) (now events) (now values)) c ⌝ }
     ensures { λ r. ⌜ Runs (lists (now (kinds .entry)) (now (refs .entry)) (now (vecs .entry)) (now (mins .entry)) (now (maxs .entry)) (now (states .entry)) (now («vec_refs» .entry))) (memOf (now (room .entry)) (now (list .entry)) (now (events .entry)) (now (values .entry))) (memOf (now (room .exit)) (now (list .exit)) (now (events .exit)) (now (values .exit))) c r (snapshotBody (lists (now (kinds .entry)) (now (refs .entry)) (now (vecs .entry)) (now (mins .entry)) (now (maxs .entry)) (now (states .entry)) (now («vec_refs» .entry))) (now (s .entry)) u at) ⌝ }
 {
-    match read_snapshot_step(
+    match read_step(
+        Source::Each,
         kinds,
         refs,
         vecs,

@@ -5,6 +5,7 @@ use slices::Field;
 use slices::field_at;
 use states::std_logic;
 ghost use mathlib.Core.Path.{_≡_};
+ghost use Prim.Native.Nat.{_≤_};
 ghost use Rattle.states.specs.Letters.{mapped};
 ghost use Rattle.values.specs.Value.{number, unsigned, signed, byteUpTo, real, value};
 
@@ -84,7 +85,9 @@ pub fn read_real(s: &[u8], at: usize) -> Read
     }
 }
 
-pub fn read_value(kind: u8, s: &[u8], at: usize) -> Read
+// The value of a kind that takes one byte.
+pub fn read_narrow(kind: u8, s: &[u8], at: usize) -> Read
+    requires { ⌜ kind ≤ 4 ⌝ }
     ensures { λ r. ⌜ r ≡ value kind (now (s .entry)) at ⌝ }
 {
     if kind <= 1 {
@@ -93,8 +96,14 @@ pub fn read_value(kind: u8, s: &[u8], at: usize) -> Read
     if kind <= 3 {
         return read_byte(s, at, 1);
     }
-    if kind == 4 {
-        return read_byte(s, at, 255);
+    read_byte(s, at, 255)
+}
+
+pub fn read_value(kind: u8, s: &[u8], at: usize) -> Read
+    ensures { λ r. ⌜ r ≡ value kind (now (s .entry)) at ⌝ }
+{
+    if kind <= 4 {
+        return read_narrow(kind, s, at);
     }
     if kind == 5 {
         return read_signed(s, at);

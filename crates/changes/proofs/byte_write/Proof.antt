@@ -13,8 +13,8 @@ add-value-at c = search (written-laws, needs)
 returns : tie.Need-returns
 returns c = search (written-laws, needs)
 
-read-value-requires : tie.Need-read-value-requires
-read-value-requires c κs = search (written-laws, needs)
+read-narrow-requires : tie.Need-read-narrow-requires
+read-narrow-requires c κs = search (written-laws, needs)
 
 enum-known-value : tie.Need-enum-known-value
 enum-known-value c = search (written-laws, needs)
@@ -35,7 +35,7 @@ byte-write-spec =
     signal-kind-requires
     add-value-at
     returns
-    read-value-requires
+    read-narrow-requires
     enum-known-value
     enum-known-number
     returns-2

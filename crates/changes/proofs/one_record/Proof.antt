@@ -1,5 +1,5 @@
 -- `changes::one_record` meets its contract: each need follows from `turn-laws`. Assumes nothing.
-use Rattle.changes.specs.Changes.Turn.{turn-laws}
+use Rattle.changes.specs.Changes.Turn.{turn-laws, write-turns}
 use borrow.Author.Needs.{needs}
 use Rattle.changes.proofs.one_record.Statement.{statement}
 use Rattle.changes.proofs.one_record.Tie as tie
@@ -59,7 +59,7 @@ same-length-6 : tie.Need-same-length-6
 same-length-6 c = search (turn-laws, needs)
 
 returns-2 : tie.Need-returns-2
-returns-2 c = search (turn-laws, needs)
+returns-2 c = write-turns _ _ _ _ (c .before .before .before .before .before .before .before .before .before .before .before .before .before .before .before .before .next-change .ensures) (c .before .before .before .before .before .before .before .before .before .before .before .before .before .before .before .before .before .before .before .before .before .before .before .before .before .before .before .before .before .pre) (c .before .before .before .before .before .before .before .before .before .before .before .before .before .before .id .given .1) (c .before .before .before .before .before .before .before .before .write-change .ensures)
 
 same-length-7 : tie.Need-same-length-7
 same-length-7 c = search (turn-laws, needs)

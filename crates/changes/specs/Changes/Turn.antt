@@ -3,19 +3,25 @@
 use mathlib.Core.Path.{_≡_, refl, sym, _∙_}
 use Prim.Native.Nat.{ℕ, _≤_, _<_}
 use mathlib.Core.Bool.{Bool, true, false}
+use mathlib.Core.Option.{Option, none, some}
 use mathlib.Core.List.{List}
+use native.Mathlib.Omega.{arith}
 use lib.ListN.{length}
 use Rattle.tables.specs.Lists.{Lists, nth, signals}
 use Rattle.values.specs.Value.{Suits}
-use Rattle.rules.specs.Gather.{Act, time, write, stepEnd}
+use Rattle.rules.specs.Gather.{Act, State, time, write, stepEnd}
+use Rattle.records.specs.Out.{Rooms}
+use Rattle.records.specs.Out as room
 use Rattle.gather.specs.declared.Gathered.{Gathered}
 use Rattle.gather.specs.declared.Wrote.{Wrote}
 use Rattle.gather.specs.declared.Wrote.the-variants.{Done, Full}
 use Rattle.gather.specs.declared.Part.{Part}
 use Rattle.gather.specs.declared.Part.the-variants.{Went, Out}
-use Rattle.gather.specs.Run.{Scan, say}
+use Rattle.gather.specs.Run.{Scan, say, done, went, out, fitted, acted, after, run}
 use Rattle.gather.specs.Memory.{Mem, memOf, Roomy}
-use Rattle.gather.specs.Follows.{Acts, Runs, Asks, runs-done, runs-fault, runs-say, runs-full, asks-acted, asks-roomy}
+use Rattle.gather.specs.Follows.{Follows, Ends, Acts, Runs, Asks, runs-done, runs-fault, runs-say, runs-full, asks-acted, asks-roomy}
+use Rattle.signals.specs.Parts.{Given}
+use Rattle.signals.specs.declared.Source.the-variants.{One}
 use Rattle.changes.specs.declared.Change.{Change}
 use Rattle.changes.specs.declared.Change.the-variants.{Time, Write, StepEnd, End, Bad}
 use Rattle.changes.specs.declared.Turn.{Turn}
@@ -43,10 +49,38 @@ pub record Writable (t : Lists) (m : Mem) (c : Gathered) (id v : ℕ) : Type 0 w
   pub last : id ≤ signals t
   pub suits : Suits (nth (t .kinds) id) v
 
-pub record Written (t : Lists) (m m' : Mem) (c : Gathered) (id v j : ℕ) (x : Turn) : Type 0 where
+pub record Written (t : Lists) (m m' : Mem) (c : Gathered) (id v i j : ℕ) (x : Turn) : Type 0 where
   pub answer : Wrote
-  pub acts : (p : ℕ) → Acts t m m' c answer (write id v p)
+  pub acts : Acts t m m' c answer (write id v i)
   pub goes : x ≡ turned true j answer
+
+-- what the code that runs one act answers is what the gatherer does
+went-follows : (t : Lists) (r : Rooms) (m : Mem) (g : State) (p : ℕ) (x : Option room.Out) {i : ℕ} {c : Gathered} → Ends t r m (Went i c) (fitted p x out (λ o. went p g o)) → Follows t r m (Done c) g x
+unfolding fitted
+went-follows t r m g p none e = let z : _≡_ {A = ℕ} 0 1 = cc in absurd (omega arith)
+went-follows t r m g p (some o) {i} {c} e = let y : g ≡ e .0 = cc in let z : o ≡ e .1 = cc in (o, refl, rw (y, z) (e .3))
+
+out-follows : (t : Lists) (r : Rooms) (m : Mem) (g : State) (p : ℕ) (x : Option room.Out) {n q : ℕ} → Ends t r m (Out n q) (fitted p x out (λ o. went p g o)) → Follows t r m Full g x
+unfolding fitted
+out-follows t r m g p none e = refl
+out-follows t r m g p (some o) e = let z : _≡_ {A = ℕ} 0 1 = cc in absurd (omega arith)
+
+module _ {t : Lists} {m m' : Mem} {c : Gathered} {id v i : ℕ} {y : Part} (f : Runs t m m' c y (say (write id v i) i (done i))) (j : ℕ) where
+  pub went-written : {k : ℕ} {g : Gathered} → y ≡ Went k g → Written t m m' c id v i j (More true j g)
+  unfolding run
+  went-written {k} {g} e =
+      record { answer = Done g; acts = record { follows = λ r s o h. went-follows t r m' (after t r s (write id v i)) i (acted t r s o (write id v i)) ((rw e at f) .runs r s o h) }; goes = refl }
+
+  pub out-written : {n p : ℕ} → y ≡ Out n p → Written t m m' c id v i j (Over (Out 16 j))
+  unfolding run
+  out-written e =
+      record { answer = Full; acts = record { follows = λ r s o h. out-follows t r m' (after t r s (write id v i)) i (acted t r s o (write id v i)) ((rw e at f) .runs r s o h) }; goes = refl }
+
+pub write-source : {t : Lists} {m : Mem} {c : Gathered} {id v : ℕ} → Writable t m c id v → Asks t m c × Given (One id v) t
+unfolding signals
+write-source w = (w .asks, record { given = (w .first, w .last, w .suits) })
+
+pub ruleset written-laws = (went-written, out-written, write-source)
 
 module _ (t : Lists) (s : List ℕ) (m m' : Mem) (c : Gathered) (inside : Bool) (i : ℕ) where
   -- whatever follows the record: where the reading is over, that is all of it; where it goes on, the rest is as from there
@@ -75,11 +109,11 @@ module _ (t : Lists) (s : List ℕ) (inside : Bool) (i : ℕ) {r : Change} (e : 
       pub write-asks : Writable t m c id v
       write-asks = let g = change-found t s i inside refl (found d) in record { asks = q; first = g .2; last = g .3; suits = g .4 }
 
-      pub write-turns : {m' : Mem} {x : Turn} → Written t m m' c id v j x → Turns t s m m' c inside i x
+      pub write-turns : {m' : Mem} {x : Turn} → Written t m m' c id v i j x → Turns t s m m' c inside i x
       unfolding oneRecord
       write-turns f =
           let g = change-found t s i inside refl (found d) in
-          act-turns (write id v i) true j (f .answer) (λ more. rw (found d)) (g .0, g .1) (f .acts i) (f .goes)
+          act-turns (write id v i) true j (f .answer) (λ more. rw (found d)) (g .0, g .1) (f .acts) (f .goes)
 
     pub end-turns : {j : ℕ} → r ≡ StepEnd j → {m' : Mem} {w : Wrote} → Acts t m m' c w stepEnd → {x : Turn} → x ≡ turned false j w → Turns t s m m' c inside i x
     unfolding oneRecord

@@ -1,20 +1,17 @@
 -- `signals::read_signal_value` meets its contract: each need follows from `value-laws`. Assumes nothing.
-use Rattle.signals.specs.Sections.Acts.{value-laws}
+use Rattle.signals.specs.Sections.Acts.{value-laws, value-asks}
 use borrow.Author.Needs.{needs}
 use Rattle.signals.proofs.read_signal_value.Statement.{statement}
 use Rattle.signals.proofs.read_signal_value.Tie as tie
 
-kind-of-requires : tie.Need-kind-of-requires
-kind-of-requires c κs = search (value-laws, needs)
-
-read-value-requires : tie.Need-read-value-requires
-read-value-requires c κs = search (value-laws, needs)
+value-of-requires : tie.Need-value-of-requires
+value-of-requires c κs = search (value-laws, needs)
 
 enum-known-v : tie.Need-enum-known-v
 enum-known-v c = search (value-laws, needs)
 
 write-value-requires : tie.Need-write-value-requires
-write-value-requires c κs = search (value-laws, needs)
+write-value-requires c κs = value-asks _ _ _ _ (c .before .before .before .before .before .before .before .before .before .before .before .before .before .before .before .before .before .before .before .before .pre) (c .before .before .before .before .before .before .before .value-of .ensures) (c .before .before .before .before .before .v .given .1)
 
 wrote-requires : tie.Need-wrote-requires
 wrote-requires c κs = search (value-laws, needs)
@@ -44,8 +41,7 @@ pub read-signal-value-spec : {M : Type 1} → statement M
 read-signal-value-spec =
     tie.close
     (tie.spec
-    kind-of-requires
-    read-value-requires
+    value-of-requires
     enum-known-v
     write-value-requires
     wrote-requires

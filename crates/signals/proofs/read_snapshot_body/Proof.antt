@@ -4,8 +4,8 @@ use borrow.Author.Needs.{needs}
 use Rattle.signals.proofs.read_snapshot_body.Statement.{statement}
 use Rattle.signals.proofs.read_snapshot_body.Tie as tie
 
-read-snapshot-step-requires : tie.Need-read-snapshot-step-requires
-read-snapshot-step-requires c κs = search (body-laws, needs)
+read-step-requires : tie.Need-read-step-requires
+read-step-requires c κs = search (body-laws, needs)
 
 enum-known-next : tie.Need-enum-known-next
 enum-known-next c = search (body-laws, needs)
@@ -50,7 +50,7 @@ pub read-snapshot-body-spec : {M : Type 1} → statement M
 read-snapshot-body-spec =
     tie.close
     (tie.spec
-    read-snapshot-step-requires
+    read-step-requires
     enum-known-next
     check-end-requires
     enum-known-n

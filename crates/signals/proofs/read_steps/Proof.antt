@@ -4,7 +4,7 @@ use lib.ListN.{length}
 use borrow.Author.Needs.{needs}
 use Rattle.tables.specs.Lists.{lists}
 use Rattle.gather.specs.Memory.{memOf}
-use Rattle.signals.specs.Sections.Cycles.{OnSteps, steps-laws, steps-bad, steps-end}
+use Rattle.signals.specs.Sections.Cycles.{OnSteps, steps-laws, steps-bad, steps-end, steps-less}
 use Rattle.signals.proofs.read_steps.Statement.{statement}
 use Rattle.signals.proofs.read_steps.Tie as tie
 
@@ -17,8 +17,8 @@ abbrev μ-loop : tie.MeasureT-loop
 loop-holds : tie.Need-loop-holds Inv-loop μ-loop
 loop-holds c = search (steps-laws, needs)
 
-read-cycle-step-requires : tie.Need-read-cycle-step-requires Inv-loop μ-loop
-read-cycle-step-requires c κs = search (steps-laws, needs)
+read-step-requires : tie.Need-read-step-requires Inv-loop μ-loop
+read-step-requires c κs = search (steps-laws, needs)
 
 enum-known-next : tie.Need-enum-known-next Inv-loop μ-loop
 enum-known-next c = search (steps-laws, needs)
@@ -30,7 +30,7 @@ enum-known-later : tie.Need-enum-known-later Inv-loop μ-loop
 enum-known-later c = search (steps-laws, needs)
 
 loop-less : tie.Need-loop-less Inv-loop μ-loop
-loop-less c = search (steps-laws, needs)
+loop-less c = steps-less (c .before .before .before .before .before .before .before .before .before .before .before .before .before .before .before .before .before .before .before .before .loop .inv) (c .before .before .before .before .before .before .before .before .before .before .before .before .before .before .before .read-step .ensures) (c .before .before .before .before .before .next .given .1) (search (needs, c .before .before .before .before .before .before .before .before .before .before .before .before .before .before .before .read-step .kept)) (c .before .before .before .next-time .ensures) (c .before .later .given .1)
 
 loop-again : tie.Need-loop-again Inv-loop μ-loop
 loop-again c = search (steps-laws, needs)
@@ -42,20 +42,20 @@ check-end-requires : tie.Need-check-end-requires Inv-loop μ-loop
 check-end-requires c κs = search (steps-laws, needs)
 
 same-length : tie.Need-same-length Inv-loop μ-loop
-same-length c = search (needs, c .before .before .before .before .before .before .before .before .before .before .before .before .before .before .before .before .before .read-cycle-step .kept, c .before .before .before .before .before .before .before .before .before .before .before .before .before .before .before .before .before .before .before .before .before .before .loop .inv .sized)
+same-length c = search (needs, c .before .before .before .before .before .before .before .before .before .before .before .before .before .before .before .before .before .read-step .kept, c .before .before .before .before .before .before .before .before .before .before .before .before .before .before .before .before .before .before .before .before .before .before .loop .inv .sized)
 
 same-length-2 : tie.Need-same-length-2 Inv-loop μ-loop
-same-length-2 c = search (needs, c .before .before .before .before .before .before .before .before .before .before .before .before .before .before .before .before .before .read-cycle-step .kept, c .before .before .before .before .before .before .before .before .before .before .before .before .before .before .before .before .before .before .before .before .before .before .loop .inv .sized)
+same-length-2 c = search (needs, c .before .before .before .before .before .before .before .before .before .before .before .before .before .before .before .before .before .read-step .kept, c .before .before .before .before .before .before .before .before .before .before .before .before .before .before .before .before .before .before .before .before .before .before .loop .inv .sized)
 
 same-length-3 : tie.Need-same-length-3 Inv-loop μ-loop
-same-length-3 c = search (needs, c .before .before .before .before .before .before .before .before .before .before .before .before .before .before .before .before .before .read-cycle-step .kept, c .before .before .before .before .before .before .before .before .before .before .before .before .before .before .before .before .before .before .before .before .before .before .loop .inv .sized)
+same-length-3 c = search (needs, c .before .before .before .before .before .before .before .before .before .before .before .before .before .before .before .before .before .read-step .kept, c .before .before .before .before .before .before .before .before .before .before .before .before .before .before .before .before .before .before .before .before .before .before .loop .inv .sized)
 
 same-length-4 : tie.Need-same-length-4 Inv-loop μ-loop
-same-length-4 c = search (needs, c .before .before .before .before .before .before .before .before .before .before .before .before .before .before .before .before .before .read-cycle-step .kept, c .before .before .before .before .before .before .before .before .before .before .before .before .before .before .before .before .before .before .before .before .before .before .loop .inv .sized)
+same-length-4 c = search (needs, c .before .before .before .before .before .before .before .before .before .before .before .before .before .before .before .before .before .read-step .kept, c .before .before .before .before .before .before .before .before .before .before .before .before .before .before .before .before .before .before .before .before .before .before .loop .inv .sized)
 
 returns : tie.Need-returns Inv-loop μ-loop
 returns c =
-    let step = c .before .before .before .before .before .before .before .before .before .before .before .before .before .before .before .before .before .read-cycle-step in
+    let step = c .before .before .before .before .before .before .before .before .before .before .before .before .before .before .before .before .before .read-step in
     steps-end (c .before .before .before .before .before .before .before .before .before .before .before .before .before .before .before .before .before .before .before .before .before .before .loop .inv) (step .ensures) (c .before .before .before .before .before .before .before .next .given .1) (search (needs, step .kept)) (c .before .before .before .before .before .next-time .ensures) (c .before .before .before .end .given .1) (c .check-end .ensures)
 
 enum-known-n : tie.Need-enum-known-n Inv-loop μ-loop
@@ -75,7 +75,7 @@ same-length-8 c = search (steps-laws, needs)
 
 returns-2 : tie.Need-returns-2 Inv-loop μ-loop
 returns-2 c =
-    let step = c .before .before .before .before .before .before .before .before .before .before .before .before .before .before .before .read-cycle-step in
+    let step = c .before .before .before .before .before .before .before .before .before .before .before .before .before .before .before .read-step in
     steps-bad (c .before .before .before .before .before .before .before .before .before .before .before .before .before .before .before .before .before .before .before .before .loop .inv) (step .ensures) (c .before .before .before .before .before .next .given .1) (search (needs, step .kept)) (c .before .before .before .next-time .ensures) (c .before .n .given .1)
 
 enum-known-n-2 : tie.Need-enum-known-n-2 Inv-loop μ-loop
@@ -103,7 +103,7 @@ read-steps-spec =
     Inv-loop
     μ-loop
     loop-holds
-    read-cycle-step-requires
+    read-step-requires
     enum-known-next
     next-time-requires
     enum-known-later

@@ -8,18 +8,20 @@ use lib.ListN.{length, getD}
 use Rattle.tables.specs.Lists.{Lists, nth, signals}
 use Rattle.values.specs.declared.Read.{Read}
 use Rattle.values.specs.declared.Read.the-variants.{Value, Bad}
-use Rattle.values.specs.Value.{onRead, value, mostOf}
+use Rattle.values.specs.Value.{onRead, value, Suits}
 use Rattle.values.specs.Value.Laws.{value-suits}
 use Rattle.rules.specs.Gather.{Act, write}
 use Rattle.gather.specs.Memory.{Mem}
 use Rattle.gather.specs.Run.{Scan, say, done}
-use Rattle.gather.specs.Follows.{Acts, Runs, runs-done, runs-fault, runs-say, runs-full}
+use Rattle.gather.specs.Follows.{Acts, Asks, Runs, runs-done, runs-fault, runs-say, runs-full}
 use Rattle.gather.specs.declared.Gathered.{Gathered}
 use Rattle.gather.specs.declared.Wrote.{Wrote}
 use Rattle.gather.specs.declared.Wrote.the-variants.{Done, Full}
 use Rattle.gather.specs.declared.Part.{Part}
 use Rattle.gather.specs.declared.Part.the-variants.{Went, Out}
-use Rattle.signals.specs.Parts.{scanOf, passedOf, partOf, oneValue, Passes}
+use Rattle.signals.specs.Parts.{scanOf, passedOf, partOf, valueOf, oneValue, Fits, Passes}
+use Rattle.signals.specs.declared.Source.{Source}
+use Rattle.signals.specs.declared.Source.the-variants.{Each, Listed, One}
 use Rattle.signals.specs.declared.Place.{Place}
 use Rattle.signals.specs.declared.Place.the-variants as place
 
@@ -68,24 +70,37 @@ kind-is l (suc i) h = ap (λ k. getD l k 0) (omega arith)
 
 pub ruleset kind-laws = (kind-is)
 
-pub id-signals : (t : Lists) (id : ℕ) → id ≤ length (t .kinds) → id ≤ signals t
+module _ (src : Source) (kinds s : List ℕ) (id i : ℕ) where
+  pub value-given : {o v : ℕ} → src ≡ One o v → Value v i ≡ valueOf src kinds s id i
+  value-given e = rw e
+
+  module _ (k : ℕ) (q : k ≡ nth kinds id) {r : Read} (e : r ≡ value k s i) where
+    pub value-each : src ≡ Each → r ≡ valueOf src kinds s id i
+    value-each d = rw d (e ∙ ap (λ k. value k s i) q)
+
+    pub value-listed : src ≡ Listed → r ≡ valueOf src kinds s id i
+    value-listed d = rw d (e ∙ ap (λ k. value k s i) q)
+
+pub ruleset of-laws = (value-given, value-each, value-listed)
+
+value-most : (src : Source) (t : Lists) (s : List ℕ) (id i : ℕ) → Fits src t id → {r : Read} → r ≡ valueOf src (t .kinds) s id i → {v j : ℕ} → r ≡ Value v j → Suits (nth (t .kinds) id) v
+value-most Each t s id i f e d = value-suits (nth (t .kinds) id) s i e d
+value-most Listed t s id i f e d = value-suits (nth (t .kinds) id) s i e d
+value-most (One o w) t s id i f e {v} {j} d = let z : w ≡ v = cc in rw z at (f .fits)
+
+pub value-asks : {t : Lists} {m : Mem} {c : Gathered} (src : Source) (s : List ℕ) (id i : ℕ) → Asks t m c × (1 ≤ id) × (id ≤ length (t .kinds)) × Fits src t id
+    → {r : Read} → r ≡ valueOf src (t .kinds) s id i → {v j : ℕ} → r ≡ Value v j → Asks t m c × (1 ≤ id) × (id ≤ signals t) × Suits (nth (t .kinds) id) v
 unfolding signals
-id-signals t id h = h
+value-asks {t} src s id i a e d = (a .0, a .1, a .2, value-most src t s id i (a .3) e d)
 
-pub value-most : (l s : List ℕ) (id i k : ℕ) → k ≡ nth l id → {r : Read} → r ≡ value k s i → {v j : ℕ} → r ≡ Value v j → nth l id ≤ 4 → v ≤ mostOf (nth l id)
-value-most l s id i k q e d = value-suits (nth l id) s i (e ∙ ap (λ k. value k s i) q) d
-
-module _ (t : Lists) (s : List ℕ) (id i k : ℕ) (q : k ≡ nth (t .kinds) id) {r : Read} (e : r ≡ value k s i) where
-  value-is : r ≡ value (nth (t .kinds) id) s i
-  value-is = e ∙ ap (λ k. value k s i) q
-
-  pub value-bad : {m : Mem} {c : Gathered} {n p : ℕ} → r ≡ Bad n p → Runs t m m c (Out n p) (oneValue t s id i)
+module _ (src : Source) (t : Lists) (s : List ℕ) (id i : ℕ) {r : Read} (e : r ≡ valueOf src (t .kinds) s id i) where
+  pub value-bad : {m : Mem} {c : Gathered} {n p : ℕ} → r ≡ Bad n p → Runs t m m c (Out n p) (oneValue src t s id i)
   unfolding oneValue onRead
-  value-bad {n = n} {p = p} b = rw (← value-is, b) (runs-fault n p)
+  value-bad {n = n} {p = p} b = rw (← e, b) (runs-fault n p)
 
   module _ {v j : ℕ} (d : r ≡ Value v j) where
-    pub value-written : {m m' : Mem} {c : Gathered} {w : Wrote} → ((p : ℕ) → Acts t m m' c w (write id v p)) → {x : Part} → x ≡ partOf j w → Runs t m m' c x (oneValue t s id i)
+    pub value-written : {m m' : Mem} {c : Gathered} {w : Wrote} → ((p : ℕ) → Acts t m m' c w (write id v p)) → {x : Part} → x ≡ partOf j w → Runs t m m' c x (oneValue src t s id i)
     unfolding oneValue onRead
-    value-written {w = w} a f = rw (← value-is, d, f) (runs-act w (a i) j)
+    value-written {w = w} a f = rw (← e, d, f) (runs-act w (a i) j)
 
-pub ruleset value-laws = (id-signals, value-bad, value-most, value-written)
+pub ruleset value-laws = (value-asks, value-bad, value-written)

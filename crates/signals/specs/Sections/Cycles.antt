@@ -20,7 +20,8 @@ use Rattle.signals.specs.Sections.Deltas.{id-none, TimeAhead, time-ahead
 use Rattle.signals.specs.Sections.Ends.{runs-end, ends-list, ends-step}
 use Rattle.signals.specs.Sections.Going.{Sized, sized-self, Going, goes, goes-as, goes-on, goes-out}
 use Rattle.signals.specs.Sections.Steps.{step-then}
-use Rattle.signals.specs.Parts.{aStep, Passes}
+use Rattle.signals.specs.Parts.{aStep, Passes, Given}
+use Rattle.signals.specs.declared.Source.the-variants.{Listed}
 use Rattle.signals.specs.declared.NextTime.{NextTime}
 use Rattle.signals.specs.declared.NextTime.the-variants.{Time, End, Bad}
 
@@ -57,6 +58,9 @@ pub steps-start : {t : Lists} {m : Mem} {c : Gathered} (s : List ℕ) (u at : �
 steps-start s u at a = record { fuel = length s; enough = omega arith; asks = a; sized = sized-self; going = λ flag. goes _ a }
 
 module _ {t : Lists} {s : List ℕ} {u₀ at : ℕ} {m₀ : Mem} {c₀ : Gathered} {u i : ℕ} {m : Mem} {c : Gathered} (o : OnSteps t s u₀ at m₀ c₀ u i m c) where
+  pub steps-asks : Asks t m c × Given Listed t
+  steps-asks = (o .asks, record { given = tt })
+
   abbrev Whole : Bool → Scan
   Whole flag = stepsFrom t flag s (length s) u₀ at
 
@@ -105,4 +109,4 @@ module _ {t : Lists} {s : List ℕ} {u₀ at : ℕ} {m₀ : Mem} {c₀ : Gathere
             let g = goes-on _ (once .2 true) f e z in
             record { fuel = once .0; enough = omega (arith, once .1, ahead); asks = g .asks; sized = g .sized; going = λ flag. rw d at (stepped flag) }
 
-pub ruleset steps-laws = (steps-start, steps-out, steps-bad, steps-end, steps-less, steps-on)
+pub ruleset steps-laws = (steps-start, steps-asks, steps-out, steps-bad, steps-end, steps-less, steps-on)

@@ -18,7 +18,9 @@ use Rattle.values.specs.declared.Read.the-variants.{Value, Bad}
 use Rattle.values.specs.Value.{onRead, number, unsigned, signed}
 use Rattle.values.specs.Value.Laws.{Ahead, unsigned-ahead, signed-ahead}
 use Rattle.signals.specs.Sections.{nextId, nextTime}
-use Rattle.signals.specs.Parts.{withKinds}
+use Rattle.signals.specs.Parts.{withKinds, nextOf}
+use Rattle.signals.specs.declared.Source.{Source}
+use Rattle.signals.specs.declared.Source.the-variants.{Each, Listed, One}
 use Rattle.signals.specs.declared.NextId.{NextId}
 use Rattle.signals.specs.declared.NextId.the-variants as ids
 use Rattle.signals.specs.declared.NextTime.{NextTime}
@@ -49,6 +51,29 @@ module _ (kinds s : List ℕ) (id i : ℕ) {r : Read} (e : r ≡ unsigned s i) w
       id-past l = rw (← e, v, ne-eqb d 0 z, lt-leb (id + d) (length kinds) (omega arith))
 
 pub ruleset id-laws = (id-bad, id-end, id-found, id-past)
+
+-- by where the values stand
+module _ (src : Source) (kinds s : List ℕ) (id i : ℕ) where
+  pub next-listed : {r : NextId} → r ≡ nextId (withKinds kinds) s id i → src ≡ Listed → r ≡ nextOf src (withKinds kinds) s id i
+  next-listed e d = rw d e
+
+  module _ (d : src ≡ Each) where
+    pub next-each : id < length kinds → ids.Id (id + 1) i ≡ nextOf src (withKinds kinds) s id i
+    unfolding signals
+    next-each h = rw (d, lt-ltb id (length kinds) h)
+
+    pub next-none : length kinds ≤ id → ids.End i ≡ nextOf src (withKinds kinds) s id i
+    unfolding signals
+    next-none h = rw (d, le-ltb id (length kinds) h)
+
+  module _ {o v : ℕ} (d : src ≡ One o v) where
+    pub next-one : id ≡ 0 → ids.Id o i ≡ nextOf src (withKinds kinds) s id i
+    next-one z = rw (d, z)
+
+    pub next-over : (id ≡ 0 → ⊥) → ids.End i ≡ nextOf src (withKinds kinds) s id i
+    next-over z = rw (d, ne-eqb id 0 z)
+
+pub ruleset of-laws = (next-listed, next-each, next-none, next-one, next-over)
 
 module _ (s : List ℕ) (u i : ℕ) {r : Read} (e : r ≡ signed s i) where
   pub time-bad : {n p : ℕ} → r ≡ Bad n p → times.Bad n p ≡ nextTime s u i

@@ -31,6 +31,7 @@ use Rattle.signals.specs.Sections.Deltas.{IdAhead, id-ahead, TimeAhead, 
 use Rattle.signals.specs.Parts.{oneValue, toEnd, aStep}
 use Rattle.signals.specs.declared.NextId.{NextId}
 use Rattle.signals.specs.declared.NextId.the-variants as ids
+use Rattle.signals.specs.declared.Source.the-variants.{Listed}
 use Rattle.signals.specs.declared.NextTime.{NextTime}
 use Rattle.signals.specs.declared.NextTime.the-variants as times
 
@@ -84,7 +85,7 @@ module _ (s : List ℕ) (b : ℕ) where
   ends-read (Value v j) id i k g a f = f j (omega (arith, a .0)) (a .1)
   ends-read (Bad n p) id i k g a f = tt
 
-  pub ends-value : (t : Lists) (id i : ℕ) → b ≤ i → Ends s b (oneValue t s id i)
+  pub ends-value : (t : Lists) (id i : ℕ) → b ≤ i → Ends s b (oneValue Listed t s id i)
   unfolding oneValue Ends
   ends-value t id i g = ends-read (value (nth (t .kinds) id) s i) id i done g (value-ahead _ s i) (λ j l h. (l, h))
 

@@ -18,14 +18,15 @@ use Rattle.tables.specs.Lists.{Lists, signals}
 use Rattle.rules.specs.Gather.{time}
 use Rattle.gather.specs.Memory.{Mem}
 use Rattle.gather.specs.Run.{Scan, say, done}
-use Rattle.gather.specs.Follows.{Runs, runs-fault, runs-then, runs-out}
+use Rattle.gather.specs.Follows.{Asks, Runs, runs-fault, runs-then, runs-out}
 use Rattle.gather.specs.declared.Gathered.{Gathered}
 use Rattle.gather.specs.declared.Part.{Part}
 use Rattle.gather.specs.declared.Part.the-variants.{Went, Out}
 use Rattle.signals.specs.Sections.{field, endMark, eachValue, steps, snapshot, cycle}
 use Rattle.signals.specs.Sections.Places.{field-is, field-no}
 use Rattle.signals.specs.Sections.Steps.{step-then}
-use Rattle.signals.specs.Parts.{scanOf, aStep, snapshotBody, Passes}
+use Rattle.signals.specs.Parts.{scanOf, aStep, snapshotBody, Passes, Given}
+use Rattle.signals.specs.declared.Source.the-variants.{Each}
 use Rattle.signals.specs.declared.Place.the-variants.{At, Bad}
 
 -- what is equal to a scan is followed as it is
@@ -61,7 +62,10 @@ module _ (t : Lists) (s : List ℕ) (u i : ℕ) {m m' : Mem} {c : Gathered} {x :
   unfolding snapshotBody
   body-end e y = runs-then (rw e at f) (λ j. endMark esn s j) (y .passes t m')
 
-pub ruleset body-laws = (body-out, body-end)
+pub body-asks : {t : Lists} {m : Mem} {c : Gathered} → Asks t m c → Asks t m c × Given Each t
+body-asks a = (a, record { given = tt })
+
+pub ruleset body-laws = (body-asks, body-out, body-end)
 
 module _ (t : Lists) (flag : Bool) (s : List ℕ) (i : ℕ) {f : Field} (e : f ≡ fieldOf 12 s i) where
   pub snapshot-short : {m : Mem} {c : Gathered} → f ≡ Short → Runs t m m c (Out 7 i) (snapshot t flag s i)

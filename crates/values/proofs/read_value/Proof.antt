@@ -4,47 +4,31 @@ use borrow.Author.Needs.{needs}
 use Rattle.values.proofs.read_value.Statement.{statement}
 use Rattle.values.proofs.read_value.Tie as tie
 
-read-nine-state-requires : tie.Need-read-nine-state-requires
-read-nine-state-requires c κs = search (value-laws, needs)
+read-narrow-requires : tie.Need-read-narrow-requires
+read-narrow-requires c κs = search (value-laws, needs)
 
 returns : tie.Need-returns
 returns c = search (value-laws, needs)
 
-read-byte-requires : tie.Need-read-byte-requires
-read-byte-requires c κs = search (value-laws, needs)
+read-signed-requires : tie.Need-read-signed-requires
+read-signed-requires c κs = search (value-laws, needs)
 
 returns-2 : tie.Need-returns-2
 returns-2 c = search (value-laws, needs)
 
-read-byte-requires-2 : tie.Need-read-byte-requires-2
-read-byte-requires-2 c κs = search (value-laws, needs)
-
-returns-3 : tie.Need-returns-3
-returns-3 c = search (value-laws, needs)
-
-read-signed-requires : tie.Need-read-signed-requires
-read-signed-requires c κs = search (value-laws, needs)
-
-returns-4 : tie.Need-returns-4
-returns-4 c = search (value-laws, needs)
-
 read-real-requires : tie.Need-read-real-requires
 read-real-requires c κs = search (value-laws, needs)
 
-returns-5 : tie.Need-returns-5
-returns-5 c = search (value-laws, needs)
+returns-3 : tie.Need-returns-3
+returns-3 c = search (value-laws, needs)
 
 pub read-value-spec : {M : Type 1} → statement M
 read-value-spec =
     tie.close
     (tie.spec
-    read-nine-state-requires
+    read-narrow-requires
     returns
-    read-byte-requires
-    returns-2
-    read-byte-requires-2
-    returns-3
     read-signed-requires
-    returns-4
+    returns-2
     read-real-requires
-    returns-5)
+    returns-3)

@@ -78,6 +78,10 @@ module _ (s : List ℕ) (i : ℕ) {f : Field} (e : f ≡ fieldOf 8 s i) where
   real-inside d = field-next 8 s i e d .1
 
 -- by the kind
+wide-is : (kind : ℕ) (s : List ℕ) (i : ℕ) → 4 < kind → value kind s i ≡ cond (eqb kind 5) (signed s i) (real s i)
+unfolding value
+wide-is kind s i h = let z : kind ≡ 4 → ⊥ = λ e. omega arith in rw (lt-leb kind 1 (omega arith), lt-leb kind 3 (omega arith), ne-eqb kind 4 z)
+
 module _ (kind : ℕ) (s : List ℕ) (i : ℕ) {r : Read} where
   pub value-nine : kind ≤ 1 → r ≡ byteUpTo 8 mapped s i → r ≡ value kind s i
   unfolding value
@@ -88,19 +92,16 @@ module _ (kind : ℕ) (s : List ℕ) (i : ℕ) {r : Read} where
     unfolding value
     value-two l e = e ∙ rw (lt-leb kind 1 h, le-leb kind 3 l)
 
-    module _ (l : 3 < kind) where
-      pub value-byte : kind ≡ 4 → r ≡ byteUpTo 255 (λ b. b) s i → r ≡ value kind s i
-      unfolding value
-      value-byte k e = e ∙ rw (lt-leb kind 1 h, lt-leb kind 3 l, eq-eqb kind 4 k)
+    pub value-byte : 3 < kind → kind ≤ 4 → r ≡ byteUpTo 255 (λ b. b) s i → r ≡ value kind s i
+    unfolding value
+    value-byte l k e = let z : kind ≡ 4 = omega arith in e ∙ rw (lt-leb kind 1 h, lt-leb kind 3 l, eq-eqb kind 4 z)
 
-      module _ (k : kind ≡ 4 → ⊥) where
-        pub value-integer : kind ≡ 5 → r ≡ signed s i → r ≡ value kind s i
-        unfolding value
-        value-integer j e = e ∙ rw (lt-leb kind 1 h, lt-leb kind 3 l, ne-eqb kind 4 k, eq-eqb kind 5 j)
+  module _ (h : 4 < kind) where
+    pub value-integer : kind ≡ 5 → r ≡ signed s i → r ≡ value kind s i
+    value-integer j e = e ∙ rw (wide-is kind s i h, eq-eqb kind 5 j)
 
-        pub value-real : (kind ≡ 5 → ⊥) → r ≡ real s i → r ≡ value kind s i
-        unfolding value
-        value-real j e = e ∙ rw (lt-leb kind 1 h, lt-leb kind 3 l, ne-eqb kind 4 k, ne-eqb kind 5 j)
+    pub value-real : (kind ≡ 5 → ⊥) → r ≡ real s i → r ≡ value kind s i
+    value-real j e = e ∙ rw (wide-is kind s i h, ne-eqb kind 5 j)
 
 -- ---- where what was found ends
 

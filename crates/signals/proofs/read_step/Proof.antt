@@ -1,8 +1,8 @@
--- `signals::read_cycle_step` meets its contract: each need follows from `step-laws`. Assumes nothing.
+-- `signals::read_step` meets its contract: each need follows from `step-laws`. Assumes nothing.
 use Rattle.signals.specs.Sections.Steps.{step-laws, step-asks}
 use borrow.Author.Needs.{needs}
-use Rattle.signals.proofs.read_cycle_step.Statement.{statement}
-use Rattle.signals.proofs.read_cycle_step.Tie as tie
+use Rattle.signals.proofs.read_step.Statement.{statement}
+use Rattle.signals.proofs.read_step.Tie as tie
 
 begin-step-requires : tie.Need-begin-step-requires
 begin-step-requires c κs = search (step-laws, needs)
@@ -10,8 +10,8 @@ begin-step-requires c κs = search (step-laws, needs)
 enum-known-begun : tie.Need-enum-known-begun
 enum-known-begun c = search (step-laws, needs)
 
-read-cycle-changes-requires : tie.Need-read-cycle-changes-requires
-read-cycle-changes-requires c κs = step-asks (c .before .before .before .before .before .before .before .before .before .begin-step .ensures) (c .before .before .before .before .before .begun .given .1) (c .before .before .before .before .before .before .before .before .before .before .before .before .before .before .before .before .before .before .before .before .before .before .before .before .pre)
+read-step-values-requires : tie.Need-read-step-values-requires
+read-step-values-requires c κs = (step-asks (c .before .before .before .before .before .before .before .before .before .begin-step .ensures) (c .before .before .before .before .before .begun .given .1) (c .before .before .before .before .before .before .before .before .before .before .before .before .before .before .before .before .before .before .before .before .before .before .before .before .pre .0), c .before .before .before .before .before .before .before .before .before .before .before .before .before .before .before .before .before .before .before .before .before .before .before .before .pre .1)
 
 enum-known-n : tie.Need-enum-known-n
 enum-known-n c = search (step-laws, needs)
@@ -40,13 +40,13 @@ same-length-6 c = search (step-laws, needs)
 returns-2 : tie.Need-returns-2
 returns-2 c = search (step-laws, needs)
 
-pub read-cycle-step-spec : {M : Type 1} → statement M
-read-cycle-step-spec =
+pub read-step-spec : {M : Type 1} → statement M
+read-step-spec =
     tie.close
     (tie.spec
     begin-step-requires
     enum-known-begun
-    read-cycle-changes-requires
+    read-step-values-requires
     enum-known-n
     same-length
     same-length-2

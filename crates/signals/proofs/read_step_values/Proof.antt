@@ -1,17 +1,17 @@
--- `signals::read_cycle_changes` meets its contract: each need follows from `changes-laws`. Assumes nothing.
+-- `signals::read_step_values` meets its contract: each need follows from `changes-laws`. Assumes nothing.
 use Rattle.signals.specs.Sections.Steps.{changes-laws, changes-asks}
 use borrow.Author.Needs.{needs}
-use Rattle.signals.proofs.read_cycle_changes.Statement.{statement}
-use Rattle.signals.proofs.read_cycle_changes.Tie as tie
+use Rattle.signals.proofs.read_step_values.Statement.{statement}
+use Rattle.signals.proofs.read_step_values.Tie as tie
 
-read-cycle-signals-requires : tie.Need-read-cycle-signals-requires
-read-cycle-signals-requires c κs = search (changes-laws, needs)
+read-signal-values-requires : tie.Need-read-signal-values-requires
+read-signal-values-requires c κs = search (changes-laws, needs)
 
 enum-known-next : tie.Need-enum-known-next
 enum-known-next c = search (changes-laws, needs)
 
 end-step-requires : tie.Need-end-step-requires
-end-step-requires c κs = changes-asks (c .before .before .before .before .before .before .before .before .before .before .before .before .before .before .before .read-cycle-signals .ensures) (c .before .before .before .before .before .next .given .1) (c .before .before .before .before .before .before .before .before .before .before .before .before .before .before .before .before .before .before .before .before .before .before .before .before .before .before .before .before .before .before .before .before .pre)
+end-step-requires c κs = changes-asks (c .before .before .before .before .before .before .before .before .before .before .before .before .before .before .before .read-signal-values .ensures) (c .before .before .before .before .before .next .given .1) (c .before .before .before .before .before .before .before .before .before .before .before .before .before .before .before .before .before .before .before .before .before .before .before .before .before .before .before .before .before .before .before .before .pre .0)
 
 enum-known-n : tie.Need-enum-known-n
 enum-known-n c = search (changes-laws, needs)
@@ -46,11 +46,11 @@ same-length-8 c = search (changes-laws, needs)
 returns-2 : tie.Need-returns-2
 returns-2 c = search (changes-laws, needs)
 
-pub read-cycle-changes-spec : {M : Type 1} → statement M
-read-cycle-changes-spec =
+pub read-step-values-spec : {M : Type 1} → statement M
+read-step-values-spec =
     tie.close
     (tie.spec
-    read-cycle-signals-requires
+    read-signal-values-requires
     enum-known-next
     end-step-requires
     enum-known-n
