@@ -9,17 +9,26 @@ pub enum Entry {
     Changes,
     Events,
     Lent,
+    Written,
+    Back,
 }
 
 impl Entry {
-    pub const ALL: [Entry; 4] = [Entry::Sections, Entry::Changes, Entry::Events, Entry::Lent];
+    pub const ALL: [Entry; 6] = [Entry::Sections, Entry::Changes, Entry::Events, Entry::Lent, Entry::Written, Entry::Back];
     pub fn name(self) -> &'static str {
         match self {
             Entry::Sections => "sections",
             Entry::Changes => "changes",
             Entry::Events => "events",
             Entry::Lent => "lent",
+            Entry::Written => "written",
+            Entry::Back => "back",
         }
+    }
+
+    /// Sections written and read back have one output, the room for events, and the crate has no counterpart of them.
+    pub fn circle(self) -> bool {
+        matches!(self, Entry::Written | Entry::Back)
     }
 }
 

@@ -3,6 +3,8 @@
 #![allow(clippy::missing_safety_doc, clippy::too_many_arguments, dead_code)]
 #[path = "plain.rs"]
 mod plain;
+#[path = "written.rs"]
+mod written;
 use plain::{Answer, Outcome, Rooms};
 use std::slice::{from_raw_parts, from_raw_parts_mut};
 
@@ -43,6 +45,9 @@ fn leave(o: Outcome, events: &mut [u8], values: &mut [u8], room: &mut [u8], list
     }
     if fault("value") && o.values.len() > 5 {
         values[5] ^= 1;
+    }
+    if fault("byte") && o.events.len() > 25 {
+        events[25] ^= 1;
     }
     answer
 }
@@ -135,4 +140,33 @@ pub unsafe extern "C" fn doorquill_read_sections_lent(
     let o = plain::read_sections_lent(&t, big_endian, from_raw_parts(input, input_len), &rooms);
     from_raw_parts_mut(flat, flat_len).fill(0);
     leave(o, from_raw_parts_mut(events, events_len), from_raw_parts_mut(values, values_len), from_raw_parts_mut(room, room_len), from_raw_parts_mut(list, list_len))
+}
+
+#[rustfmt::skip]
+#[no_mangle]
+pub unsafe extern "C" fn doorquill_write_sections(
+    kinds: *const u8, kinds_len: usize, refs: *const u32, refs_len: usize, vecs: *const u32, vecs_len: usize,
+    mins: *const u32, mins_len: usize, maxs: *const u32, maxs_len: usize,
+    states: *const u8, states_len: usize, vec_refs: *const u32, vec_refs_len: usize,
+    big_endian: bool, changes: *const u8, changes_len: usize, out: *mut u8, out_len: usize,
+) -> Answer {
+    let t = tables(kinds, kinds_len, refs, refs_len, vecs, vecs_len, mins, mins_len, maxs, maxs_len, states, states_len, vec_refs, vec_refs_len);
+    let o = written::write_sections(&t, big_endian, from_raw_parts(changes, changes_len), out_len);
+    leave(o, from_raw_parts_mut(out, out_len), &mut [], &mut [], &mut [])
+}
+
+#[rustfmt::skip]
+#[no_mangle]
+pub unsafe extern "C" fn doorquill_read_back(
+    kinds: *const u8, kinds_len: usize, refs: *const u32, refs_len: usize, vecs: *const u32, vecs_len: usize,
+    mins: *const u32, mins_len: usize, maxs: *const u32, maxs_len: usize,
+    states: *const u8, states_len: usize, vec_refs: *const u32, vec_refs_len: usize,
+    big_endian: bool, input: *const u8, input_len: usize, out: *mut u8, out_len: usize,
+) -> Answer {
+    let t = tables(kinds, kinds_len, refs, refs_len, vecs, vecs_len, mins, mins_len, maxs, maxs_len, states, states_len, vec_refs, vec_refs_len);
+    let o = written::read_back(&t, big_endian, from_raw_parts(input, input_len), out_len);
+    if fault("input") && input_len > 0 {
+        *(input as *mut u8) ^= 1;
+    }
+    leave(o, from_raw_parts_mut(out, out_len), &mut [], &mut [], &mut [])
 }

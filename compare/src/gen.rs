@@ -34,6 +34,17 @@ impl Rng {
             _ => self.next(),
         }
     }
+    /// A number by its size in LEB128: around the last that so many groups hold, signed or not, and the same below zero.
+    pub fn leb128(&mut self) -> u64 {
+        let bits = 7 * (1 + self.below(10)) - self.below(2);
+        let edge = if bits < 64 { 1u64 << bits } else { 1 << 63 };
+        let number = edge.wrapping_add(self.below(3) as u64).wrapping_sub(2);
+        match self.below(4) {
+            0 => self.number(),
+            1 => !number,
+            _ => number,
+        }
+    }
 }
 
 const WIDTHS: [u32; 27] = [1, 2, 3, 4, 5, 6, 7, 8, 9, 10, 11, 12, 13, 14, 15, 16, 17, 18, 19, 20, 63, 64, 65, 66, 128, 300, 24];
@@ -190,6 +201,8 @@ pub enum Fault {
     Order,
     Kind,
     Bounds,
+    Rising,
+    Jump,
 }
 
 pub struct Writer<'a> {
@@ -441,6 +454,10 @@ impl<'a> Writer<'a> {
     }
 
     fn write(&mut self, id: usize) {
+        self.write_of(id, Rng::number);
+    }
+
+    fn write_of(&mut self, id: usize, number: fn(&mut Rng) -> u64) {
         let mut named = id as u32;
         if self.now(Fault::Id) {
             named = self.rng.pick(&[0, self.t.kinds.len() as u32 + 1, u32::MAX, 65_536]);
@@ -449,7 +466,7 @@ impl<'a> Writer<'a> {
         let kind = self.t.kinds[id - 1];
         let wide = (kind >= 5) != self.now(Fault::Bounds);
         if wide {
-            let number = self.rng.number();
+            let number = number(self.rng);
             body.extend(number.to_be_bytes());
             self.record(3, &body);
         } else {
@@ -486,6 +503,63 @@ impl<'a> Writer<'a> {
                 }
                 if self.now(Fault::Order) {
                     let time = self.rng.number();
+                    self.record(1, &time.to_be_bytes());
+                }
+            }
+            if !self.now(Fault::Order) {
+                self.record(4, &[]);
+            }
+        }
+        self.out
+    }
+
+    /// A time that may follow another: the same, a little or much later, as far as 2^63-1 later; with the fault one that may not.
+    fn later(&mut self, time: u64) -> u64 {
+        const FAR: u64 = 1 << 63;
+        let most = (u64::MAX - time).min(FAR - 1);
+        if (time > 0 || most == FAR - 1) && self.now(Fault::Jump) {
+            return match self.rng.below(4) {
+                0 if time > 0 => time - 1,
+                1 if time > 0 => time - 1 - self.rng.number() % time,
+                2 if u64::MAX - time >= FAR => u64::MAX,
+                _ if u64::MAX - time >= FAR => time + FAR,
+                _ => time - 1,
+            };
+        }
+        let delta = match self.rng.below(7) {
+            0 | 1 => 0,
+            2 => self.rng.below(200) as u64,
+            3 => FAR - 1,
+            4 => most,
+            _ => self.rng.leb128() % FAR,
+        };
+        time + delta.min(most)
+    }
+
+    /// A change stream that can be written as a section: times that don't fall, ids that rise in a step.
+    pub fn steps(mut self) -> Vec<u8> {
+        let mut time = if self.rng.percent(60) { self.rng.below(12) as u64 } else { self.rng.number() };
+        let count = self.rng.pick(&[0, 1, 1, 2, 2, 2, 3, 3, 4, 6]);
+        for step in 0..count {
+            if step > 0 {
+                time = self.later(time);
+            }
+            if !self.now(Fault::Order) {
+                self.record(1, &time.to_be_bytes());
+            }
+            let mut last = 0;
+            for id in self.ids() {
+                let again = last > 0 && self.now(Fault::Rising);
+                let id = if !again {
+                    id
+                } else if self.rng.percent(50) {
+                    last
+                } else {
+                    1 + self.rng.below(last)
+                };
+                self.write_of(id, Rng::leb128);
+                last = id;
+                if self.now(Fault::Order) {
                     self.record(1, &time.to_be_bytes());
                 }
             }

@@ -20,6 +20,7 @@ impl Host {
     pub const LINKED: bool = false;
     pub const NAME: &'static str = "no port";
     pub const LENT: bool = false;
+    pub const WRITTEN: bool = false;
 
     /// None: the port isn't linked in.
     pub fn call(&mut self, _: &crate::cases::Case) -> Option<Result<Answered, String>> {
@@ -76,9 +77,23 @@ mod linked {
             events: *mut u8, events_len: usize, values: *mut u8, values_len: usize,
             room: *mut u8, room_len: usize, list: *mut u32, list_len: usize,
         ) -> Answer;
+        #[cfg(written)]
+        fn doorquill_write_sections(
+            kinds: *const u8, kinds_len: usize, refs: *const u32, refs_len: usize, vecs: *const u32, vecs_len: usize,
+            mins: *const u32, mins_len: usize, maxs: *const u32, maxs_len: usize,
+            states: *const u8, states_len: usize, vec_refs: *const u32, vec_refs_len: usize,
+            big_endian: bool, changes: *const u8, changes_len: usize, out: *mut u8, out_len: usize,
+        ) -> Answer;
+        #[cfg(written)]
+        fn doorquill_read_back(
+            kinds: *const u8, kinds_len: usize, refs: *const u32, refs_len: usize, vecs: *const u32, vecs_len: usize,
+            mins: *const u32, mins_len: usize, maxs: *const u32, maxs_len: usize,
+            states: *const u8, states_len: usize, vec_refs: *const u32, vec_refs_len: usize,
+            big_endian: bool, input: *const u8, input_len: usize, out: *mut u8, out_len: usize,
+        ) -> Answer;
     }
 
-    /// The tables as the three table entries take them.
+    /// The tables as the table entries take them.
     pub struct Tables<'a> {
         pub kinds: &'a [u8],
         pub refs: &'a [u32],
@@ -96,7 +111,7 @@ mod linked {
         pub list: &'a mut [u32],
     }
 
-    // The four functions below hand on slices as pointers and lengths and nothing else: the port reads and writes within them only.
+    // The functions below hand on slices as pointers and lengths and nothing else: the port reads and writes within them only.
     #[rustfmt::skip]
     pub fn read_sections(t: &Tables, big_endian: bool, input: &[u8], o: Out) -> Answer {
         unsafe {
@@ -141,6 +156,42 @@ mod linked {
 
     #[cfg(not(lent))]
     pub fn read_sections_lent(_: &Tables, _: &[Vector], _: &mut [u32], _: bool, _: &[u8], _: Out) -> Answer {
+        unreachable!("not in the archive")
+    }
+
+    #[cfg(written)]
+    #[rustfmt::skip]
+    pub fn write_sections(t: &Tables, big_endian: bool, changes: &[u8], out: &mut [u8]) -> Answer {
+        unsafe {
+            doorquill_write_sections(
+                t.kinds.as_ptr(), t.kinds.len(), t.refs.as_ptr(), t.refs.len(), t.vecs.as_ptr(), t.vecs.len(),
+                t.mins.as_ptr(), t.mins.len(), t.maxs.as_ptr(), t.maxs.len(),
+                t.states.as_ptr(), t.states.len(), t.vec_refs.as_ptr(), t.vec_refs.len(),
+                big_endian, changes.as_ptr(), changes.len(), out.as_mut_ptr(), out.len(),
+            )
+        }
+    }
+
+    #[cfg(written)]
+    #[rustfmt::skip]
+    pub fn read_back(t: &Tables, big_endian: bool, input: &[u8], out: &mut [u8]) -> Answer {
+        unsafe {
+            doorquill_read_back(
+                t.kinds.as_ptr(), t.kinds.len(), t.refs.as_ptr(), t.refs.len(), t.vecs.as_ptr(), t.vecs.len(),
+                t.mins.as_ptr(), t.mins.len(), t.maxs.as_ptr(), t.maxs.len(),
+                t.states.as_ptr(), t.states.len(), t.vec_refs.as_ptr(), t.vec_refs.len(),
+                big_endian, input.as_ptr(), input.len(), out.as_mut_ptr(), out.len(),
+            )
+        }
+    }
+
+    #[cfg(not(written))]
+    pub fn write_sections(_: &Tables, _: bool, _: &[u8], _: &mut [u8]) -> Answer {
+        unreachable!("not in the archive")
+    }
+
+    #[cfg(not(written))]
+    pub fn read_back(_: &Tables, _: bool, _: &[u8], _: &mut [u8]) -> Answer {
         unreachable!("not in the archive")
     }
 
@@ -243,15 +294,83 @@ mod linked {
         pub const NAME: &'static str = if cfg!(fake) { "FAKE port (the plain reading again)" } else { "port" };
         /// The archive has the entry over lent vector records too.
         pub const LENT: bool = cfg!(lent);
+        /// .. and the two of sections written and read back.
+        pub const WRITTEN: bool = cfg!(written);
 
         /// The port's answer to a case, or what it did to lent memory that it must not.
         pub fn call(&mut self, case: &Case) -> Option<Result<Answered, String>> {
-            if case.entry == Entry::Lent && !Self::LENT {
+            if case.entry == Entry::Lent && !Self::LENT || case.entry.circle() && !Self::WRITTEN {
                 return None;
             }
             self.calls += 1;
-            Some(if case.entry == Entry::Events { time_rule_checked(case) } else { reading_checked(case) })
+            Some(match case.entry {
+                Entry::Events => time_rule_checked(case),
+                Entry::Written | Entry::Back => filled_checked(case),
+                _ => reading_checked(case),
+            })
         }
+    }
+
+    /// The seven lists, each between guards.
+    struct LentTables {
+        kinds: Lent<u8>,
+        refs: Lent<u32>,
+        vecs: Lent<u32>,
+        mins: Lent<u32>,
+        maxs: Lent<u32>,
+        states: Lent<u8>,
+        vec_refs: Lent<u32>,
+    }
+
+    impl LentTables {
+        fn copy(t: &crate::plain::Tables) -> Self {
+            LentTables {
+                kinds: Lent::copy(&t.kinds),
+                refs: Lent::copy(&t.refs),
+                vecs: Lent::copy(&t.vecs),
+                mins: Lent::copy(&t.mins),
+                maxs: Lent::copy(&t.maxs),
+                states: Lent::copy(&t.states),
+                vec_refs: Lent::copy(&t.vec_refs),
+            }
+        }
+
+        fn see(&self) -> Tables<'_> {
+            Tables {
+                kinds: self.kinds.see(),
+                refs: self.refs.see(),
+                vecs: self.vecs.see(),
+                mins: self.mins.see(),
+                maxs: self.maxs.see(),
+                states: self.states.see(),
+                vec_refs: self.vec_refs.see(),
+            }
+        }
+
+        fn check(&self, t: &crate::plain::Tables) -> Result<(), String> {
+            self.kinds.check_input("kinds", &t.kinds)?;
+            self.refs.check_input("refs", &t.refs)?;
+            self.vecs.check_input("vecs", &t.vecs)?;
+            self.mins.check_input("mins", &t.mins)?;
+            self.maxs.check_input("maxs", &t.maxs)?;
+            self.states.check_input("states", &t.states)?;
+            self.vec_refs.check_input("vec_refs", &t.vec_refs)
+        }
+    }
+
+    /// The entries with tables, an input and one output.
+    fn filled_checked(case: &Case) -> Result<Answered, String> {
+        let (tables, input) = (LentTables::copy(&case.tables), Lent::copy(&case.input));
+        let mut out = Lent::<u8>::garbage(case.rooms.events);
+        let call = if case.entry == Entry::Written { write_sections } else { read_back };
+        let answer = call(&tables.see(), case.big, input.see(), out.inside());
+        let checked = || {
+            tables.check(&case.tables)?;
+            input.check_input("input", &case.input)?;
+            out.check_output("out", answer.events)
+        };
+        let events = checked().map_err(|e| format!("{}; {:?}", e, answer))?;
+        Ok(Answered { answer, events, values: vec![] })
     }
 
     fn time_rule_checked(case: &Case) -> Result<Answered, String> {
@@ -271,21 +390,11 @@ mod linked {
     fn reading_checked(case: &Case) -> Result<Answered, String> {
         let t = &case.tables;
         let r = &case.rooms;
-        let (kinds, states, input) = (Lent::copy(&t.kinds), Lent::copy(&t.states), Lent::copy(&case.input));
-        let (refs, vecs) = (Lent::copy(&t.refs), Lent::copy(&t.vecs));
-        let (mins, maxs, vec_refs) = (Lent::copy(&t.mins), Lent::copy(&t.maxs), Lent::copy(&t.vec_refs));
+        let (lists, input) = (LentTables::copy(t), Lent::copy(&case.input));
         let (mut events, mut values, mut room) =
             (Lent::<u8>::garbage(r.events), Lent::<u8>::garbage(r.values), Lent::<u8>::garbage(r.room));
         let (mut list, mut flat) = (Lent::<u32>::garbage(r.list), Lent::<u32>::garbage(r.flat));
-        let tables = Tables {
-            kinds: kinds.see(),
-            refs: refs.see(),
-            vecs: vecs.see(),
-            mins: mins.see(),
-            maxs: maxs.see(),
-            states: states.see(),
-            vec_refs: vec_refs.see(),
-        };
+        let tables = lists.see();
         // The three bytes after a state belong to no field: garbage.
         let lends = case.entry == Entry::Lent;
         let state = |v: usize| u32::from_le_bytes([t.states[v], 0xa5, 0x5a, v as u8]);
@@ -300,13 +409,7 @@ mod linked {
             _ => read_sections_lent(&tables, vectors, flat.inside(), case.big, input.see(), out),
         };
         let checked = || {
-            kinds.check_input("kinds", &t.kinds)?;
-            refs.check_input("refs", &t.refs)?;
-            vecs.check_input("vecs", &t.vecs)?;
-            mins.check_input("mins", &t.mins)?;
-            maxs.check_input("maxs", &t.maxs)?;
-            states.check_input("states", &t.states)?;
-            vec_refs.check_input("vec_refs", &t.vec_refs)?;
+            lists.check(t)?;
             input.check_input("input", &case.input)?;
             records.check_input("vectors", &numbers)?;
             room.check_output("room", 0)?;

@@ -1,8 +1,10 @@
 //! One case put to the plain reading, to the crate's code (a release build, and one with its debug assertions and overflow
 //! checks on) and, where it is linked in, to the port. Every difference that isn't one of the named ones is told.
 use crate::cases::{answer_text, outcome_text, Case, Entry};
+use crate::circle;
 use crate::host::Host;
 use crate::plain::{self, Answer, Outcome, Why};
+use crate::written;
 use calls::{End, Run, What};
 
 /// The intended differences, by name: what document 01 refuses and the release build of the crate doesn't, or not so.
@@ -32,6 +34,8 @@ pub fn plain_outcome(case: &Case) -> Outcome {
         Entry::Lent => plain::read_sections_lent(&case.tables, case.big, &case.input, &case.rooms),
         Entry::Changes => plain::read_changes(&case.tables, &case.input, &case.rooms),
         Entry::Events => plain::time_rule(&case.input, case.values.len(), case.rooms.events),
+        Entry::Written => written::write_sections(&case.tables, case.big, &case.input, case.rooms.events),
+        Entry::Back => written::read_back(&case.tables, case.big, &case.input, case.rooms.events),
     }
 }
 
@@ -43,6 +47,7 @@ pub fn crate_run(case: &Case, debug: bool) -> Run {
         (Entry::Changes, true) => wellen_debug::drive::changes(&case.tables, &case.input),
         (Entry::Events, false) => wellen_release::drive::events(&case.input, &case.values),
         (Entry::Events, true) => wellen_debug::drive::events(&case.input, &case.values),
+        (Entry::Written | Entry::Back, _) => unreachable!("the crate writes no sections"),
     }
 }
 
@@ -220,12 +225,21 @@ fn beside(case: &Case, plain: &Outcome, run: &Run, debug: bool) -> Result<Option
 
 pub fn judge(case: &Case, host: &mut Host) -> Verdict {
     let plain = plain_outcome(case);
+    let mut verdict = sides(case, &plain, host);
+    if verdict.difference.is_none() {
+        verdict.difference = circle::laws(case, &plain, host).err();
+    }
+    verdict
+}
+
+/// The other sides beside the plain outcome.
+pub fn sides(case: &Case, plain: &Outcome, host: &mut Host) -> Verdict {
     let number = plain.answer.number;
     let mut verdict = Verdict { number, named: None, difference: None };
-    let differs = |who: &str, what: String| Some(format!("plain: {}\n{}: {}", outcome_text(&plain), who, what));
-    if number == 0 || number >= 7 {
+    let differs = |who: &str, what: String| Some(format!("plain: {}\n{}: {}", outcome_text(plain), who, what));
+    if !case.entry.circle() && (number == 0 || number >= 7) {
         for (debug, who) in [(false, "the crate"), (true, "the crate, checks on")] {
-            match beside(case, &plain, &crate_run(case, debug), debug) {
+            match beside(case, plain, &crate_run(case, debug), debug) {
                 Ok(named) => verdict.named = named,
                 Err(what) => {
                     verdict.difference = differs(who, what);

@@ -1,6 +1,7 @@
 //! The port of the GHW section reader beside the crate's own Rust and beside a plain reading of document 01.
 mod bench;
 mod cases;
+mod circle;
 mod gathering;
 mod gen;
 mod host;
@@ -9,6 +10,7 @@ mod plain;
 mod readings;
 mod runs;
 mod sample;
+mod written;
 
 use cases::Entry;
 use runs::Session;
@@ -17,6 +19,8 @@ use std::process::exit;
 const HELP: &str = "compare run [--seed S] [--sections N] [--changes N] [--events N] [--no-exhaustive] [--examples]
     the plain reading, the crate and (where it is linked in) the port, on generated inputs; stops at the first difference
 compare self ..           the same, but says that it was run without the port
+compare written [--seed S] [--streams N] [--no-exhaustive]
+    change streams written as sections and read by all, and sections read back, until N streams went round
 compare readings          the inputs with chosen answers
 compare samples DIR       real files: NAME.ghw, NAME.listing-in, NAME.listing-out
 compare limits            the largest buffers and one past them (up to 5 GB of memory)
@@ -57,15 +61,37 @@ fn run(args: &[String]) -> bool {
         Ok(())
     }();
     s.report(args.iter().any(|a| a == "--examples"));
-    let sides = if host::Host::LINKED { format!("plain, crate and {}", host::Host::NAME) } else { "plain and crate".to_string() };
-    println!(
-        "seed {}, {} seconds, {}: {}",
-        seed,
-        started.elapsed().as_secs(),
-        sides,
-        if whole.is_ok() { "no difference" } else { "DIFFERENCE" }
-    );
-    whole.is_ok()
+    ended(seed, started, host::Host::LINKED, whole.is_ok())
+}
+
+/// The last line of a run: by whom, and how it ended.
+fn ended(seed: u64, started: std::time::Instant, port: bool, good: bool) -> bool {
+    let sides = if port { format!("plain, crate and {}", host::Host::NAME) } else { "plain and crate".to_string() };
+    let end = if good { "no difference" } else { "DIFFERENCE" };
+    println!("seed {}, {} seconds, {}: {}", seed, started.elapsed().as_secs(), sides, end);
+    good
+}
+
+fn written(args: &[String]) -> bool {
+    let seed = option(args, "--seed", 1);
+    let mut s = Session::default();
+    let started = std::time::Instant::now();
+    let whole = || -> Result<u64, runs::Stop> {
+        if !args.iter().any(|a| a == "--no-exhaustive") {
+            circle::exhaustive(&mut s)?;
+            println!("short streams, exhaustively, and long ones: {}", s.total(Entry::Written));
+        }
+        circle::random_runs(&mut s, seed, option(args, "--streams", 20_000))
+    }();
+    s.report(false);
+    if let Ok(streams) = whole {
+        println!(
+            "{} random streams, no two alike and none without a write, went round: written, read as sections with the stream's events,",
+            streams
+        );
+        println!("  read back as the stream itself, written again as the same bytes");
+    }
+    ended(seed, started, host::Host::WRITTEN, whole.is_ok())
 }
 
 fn limits() -> bool {
@@ -87,6 +113,7 @@ fn main() {
     };
     let good = match args.first().map(String::as_str) {
         Some("run") | Some("self") => run(&args),
+        Some("written") => written(&args),
         Some("limits") => limits(),
         Some("readings") => readings::readings(),
         Some("samples") => readings::samples(&file()),

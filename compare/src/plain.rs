@@ -49,7 +49,7 @@ pub struct Refusal {
     pub why: Why,
 }
 
-fn refuse<T>(number: u64, place: usize) -> Result<T, Refusal> {
+pub fn refuse<T>(number: u64, place: usize) -> Result<T, Refusal> {
     Err(Refusal { number, place, why: Why::Rule })
 }
 
@@ -74,12 +74,12 @@ pub struct Made {
 }
 
 impl Made {
-    fn within(event_room: usize, value_room: usize) -> Self {
+    pub fn within(event_room: usize, value_room: usize) -> Self {
         Made { event_room, value_room, ..Made::default() }
     }
 
     /// "16: next event doesn't fit event or value room", at the next unread byte.
-    fn event(&mut self, record: &[u8], value: &[u8], unread: usize) -> Result<(), Refusal> {
+    pub fn event(&mut self, record: &[u8], value: &[u8], unread: usize) -> Result<(), Refusal> {
         if self.events.len() + record.len() > self.event_room || self.values.len() + value.len() > self.value_room {
             return refuse(16, unread);
         }
@@ -112,7 +112,7 @@ impl Made {
         self.event(&record, &[], unread)
     }
 
-    fn outcome(self, end: Result<usize, Refusal>, value_bytes: bool) -> Outcome {
+    pub fn outcome(self, end: Result<usize, Refusal>, value_bytes: bool) -> Outcome {
         match end {
             Ok(read) => {
                 let values = if value_bytes { self.values.len() as u64 } else { 0 };
@@ -141,7 +141,7 @@ pub fn needs(t: &Tables) -> (usize, usize) {
 }
 
 /// Checks 1 to 6, in that order and lowest number first within one.
-fn check(t: &Tables, input: usize, rooms: &Rooms, flat: Option<usize>) -> Result<(), Refusal> {
+pub fn check(t: &Tables, input: usize, rooms: &Rooms, flat: Option<usize>) -> Result<(), Refusal> {
     let others = [rooms.events, rooms.values, rooms.room, rooms.list, flat.unwrap_or(0)];
     if input > MOST_INPUT || others.iter().any(|r| *r > MOST_OTHER) {
         return refuse(1, 0);
@@ -238,6 +238,27 @@ impl Vector {
     }
 }
 
+/// A written value: a byte of kinds 0 to 4 as it stands in the input and as it is mapped, or the eight bytes of kinds 5 and 6.
+#[derive(Clone, Copy)]
+pub enum Value {
+    Byte { byte: u8, mapped: u8 },
+    Wide(u64),
+}
+
+/// Where an act stands: the first byte of its record (of its delta or value in sections), and the next unread byte after it.
+#[derive(Clone, Copy)]
+pub struct At {
+    pub record: usize,
+    pub unread: usize,
+}
+
+/// What sections and change records say, one act after the other, to one who makes something of it.
+pub trait Acts {
+    fn time(&mut self, time: u64, at: At) -> Result<(), Refusal>;
+    fn write(&mut self, id: usize, value: Value, at: At) -> Result<(), Refusal>;
+    fn step_end(&mut self, at: At) -> Result<(), Refusal>;
+}
+
 struct Gatherer {
     vectors: Vec<Vector>,
     /// Vectors in the order of their first write in the step.
@@ -294,24 +315,38 @@ impl Gatherer {
         }
         Ok(())
     }
+}
 
-    /// A judged write of a byte: kinds 0 to 4.
-    fn byte(&mut self, t: &Tables, id: usize, value: u8, made: &mut Made, unread: usize) -> Result<(), Refusal> {
-        let reference = t.refs[id - 1];
-        match t.kinds[id - 1] {
-            1 | 3 => self.write(t.vecs[id - 1] as usize, id, value, made, unread),
-            kind => made.value(kind == 0, reference, &[value], unread),
+/// The readings: acts become events.
+struct Reading<'a> {
+    t: &'a Tables,
+    gatherer: Gatherer,
+    made: &'a mut Made,
+}
+
+impl<'a> Reading<'a> {
+    fn new(t: &'a Tables, made: &'a mut Made) -> Self {
+        Reading { t, gatherer: Gatherer::new(t), made }
+    }
+}
+
+impl Acts for Reading<'_> {
+    fn time(&mut self, time: u64, at: At) -> Result<(), Refusal> {
+        self.made.time(time, at.unread)
+    }
+
+    fn write(&mut self, id: usize, value: Value, at: At) -> Result<(), Refusal> {
+        let (kind, reference, vector) = (self.t.kinds[id - 1], self.t.refs[id - 1], self.t.vecs[id - 1] as usize);
+        match value {
+            Value::Byte { mapped, .. } if kind == 1 || kind == 3 => self.gatherer.write(vector, id, mapped, self.made, at.unread),
+            Value::Byte { mapped, .. } => self.made.value(kind == 0, reference, &[mapped], at.unread),
+            Value::Wide(bits) if kind == 5 => self.made.value(false, reference, &bits.to_be_bytes(), at.unread),
+            Value::Wide(bits) => self.made.real(reference, bits, at.unread),
         }
     }
 
-    /// A write of eight bytes: kinds 5 and 6.
-    fn wide(&mut self, t: &Tables, id: usize, bits: u64, made: &mut Made, unread: usize) -> Result<(), Refusal> {
-        let reference = t.refs[id - 1];
-        if t.kinds[id - 1] == 5 {
-            made.value(false, reference, &bits.to_be_bytes(), unread)
-        } else {
-            made.real(reference, bits, unread)
-        }
+    fn step_end(&mut self, at: At) -> Result<(), Refusal> {
+        self.gatherer.step_end(self.made, at.unread)
     }
 }
 
@@ -391,69 +426,63 @@ impl<'a> Input<'a> {
     }
 }
 
-fn value(t: &Tables, id: usize, input: &mut Input, gatherer: &mut Gatherer, made: &mut Made) -> Result<(), Refusal> {
-    let place = input.at;
-    match t.kinds[id - 1] {
-        5 => {
-            let number = input.signed()?;
-            gatherer.wide(t, id, number as u64, made, input.at)
-        }
-        6 => {
-            // "eight bytes, always little-endian, the flag aside"
-            let bytes = input.take(8)?;
-            let bits = bytes.iter().rev().fold(0, |n, b| n << 8 | u64::from(*b));
-            gatherer.wide(t, id, bits, made, input.at)
-        }
+fn value(t: &Tables, id: usize, input: &mut Input, acts: &mut dyn Acts) -> Result<(), Refusal> {
+    let record = input.at;
+    let value = match t.kinds[id - 1] {
+        5 => Value::Wide(input.signed()? as u64),
+        // "eight bytes, always little-endian, the flag aside"
+        6 => Value::Wide(input.take(8)?.iter().rev().fold(0, |n, b| n << 8 | u64::from(*b))),
         kind => {
             let byte = input.take(1)?[0];
-            let mapped = byte_value(kind, byte, place)?;
-            gatherer.byte(t, id, mapped, made, input.at)
+            Value::Byte { byte, mapped: byte_value(kind, byte, record)? }
         }
-    }
+    };
+    acts.write(id, value, At { record, unread: input.at })
 }
 
-fn snapshot(t: &Tables, input: &mut Input, gatherer: &mut Gatherer, made: &mut Made) -> Result<(), Refusal> {
-    let place = input.at;
+fn snapshot(t: &Tables, input: &mut Input, acts: &mut dyn Acts) -> Result<(), Refusal> {
+    let record = input.at;
     let head = input.take(12)?;
     if head[..4] != [0; 4] {
-        return refuse(9, place);
+        return refuse(9, record);
     }
-    made.time(input.fixed(&head[4..]), input.at)?;
+    acts.time(input.fixed(&head[4..]), At { record, unread: input.at })?;
     for id in 1..=t.kinds.len() {
-        value(t, id, input, gatherer, made)?;
+        value(t, id, input, acts)?;
     }
-    gatherer.step_end(made, input.at)?;
+    acts.step_end(At { record: input.at, unread: input.at })?;
     input.end_mark(b"ESN\0")
 }
 
-fn cycle(t: &Tables, input: &mut Input, gatherer: &mut Gatherer, made: &mut Made) -> Result<(), Refusal> {
+fn cycle(t: &Tables, input: &mut Input, acts: &mut dyn Acts) -> Result<(), Refusal> {
+    let mut record = input.at;
     let head = input.take(8)?;
     let mut time = input.fixed(head);
     loop {
-        made.time(time, input.at)?;
+        acts.time(time, At { record, unread: input.at })?;
         let mut id = 0;
         loop {
-            let place = input.at;
+            record = input.at;
             let delta = input.unsigned()?;
             if delta == 0 {
                 break;
             }
             let sum = id as u128 + u128::from(delta);
             if sum > t.kinds.len() as u128 {
-                return Err(Refusal { number: 13, place, why: Why::Id(sum) });
+                return Err(Refusal { number: 13, place: record, why: Why::Id(sum) });
             }
             id = sum as usize;
-            value(t, id, input, gatherer, made)?;
+            value(t, id, input, acts)?;
         }
-        gatherer.step_end(made, input.at)?;
-        let place = input.at;
+        acts.step_end(At { record, unread: input.at })?;
+        record = input.at;
         let delta = input.signed()?;
         if delta < 0 {
             return input.end_mark(b"ECY\0");
         }
         time = match time.checked_add(delta as u64) {
             Some(time) => time,
-            None => return refuse(15, place),
+            None => return refuse(15, record),
         };
     }
 }
@@ -471,33 +500,55 @@ fn directory(input: &mut Input) -> Result<(), Refusal> {
     input.end_mark(b"EOD\0")
 }
 
-fn sections(t: &Tables, input: &mut Input, made: &mut Made) -> Result<usize, Refusal> {
-    let mut gatherer = Gatherer::new(t);
+/// The next section, and whether it was the tailer.
+fn section(t: &Tables, input: &mut Input, acts: &mut dyn Acts) -> Result<bool, Refusal> {
+    let place = input.at;
+    match input.take(4)? {
+        b"SNP\0" => snapshot(t, input, acts)?,
+        b"CYC\0" => cycle(t, input, acts)?,
+        b"DIR\0" => directory(input)?,
+        b"TAI\0" => {
+            input.take(8)?;
+            return Ok(true);
+        }
+        _ => return refuse(8, place),
+    }
+    Ok(false)
+}
+
+/// All sections up to the tailer: the bytes read.
+pub fn sections(t: &Tables, big: bool, bytes: &[u8], acts: &mut dyn Acts) -> Result<usize, Refusal> {
+    let mut input = Input { bytes, at: 0, big };
+    while !section(t, &mut input, acts)? {}
+    Ok(input.at)
+}
+
+/// Each section's bytes, the tailer's last.
+pub fn cut<'a>(t: &Tables, big: bool, bytes: &'a [u8]) -> Result<Vec<&'a [u8]>, Refusal> {
+    let mut made = Made::within(MOST_OTHER, MOST_OTHER);
+    let mut acts = Reading::new(t, &mut made);
+    let mut input = Input { bytes, at: 0, big };
+    let mut out = vec![];
     loop {
-        let place = input.at;
-        match input.take(4)? {
-            b"SNP\0" => snapshot(t, input, &mut gatherer, made)?,
-            b"CYC\0" => cycle(t, input, &mut gatherer, made)?,
-            b"DIR\0" => directory(input)?,
-            b"TAI\0" => {
-                input.take(8)?;
-                return Ok(input.at);
-            }
-            _ => return refuse(8, place),
+        let from = input.at;
+        let last = section(t, &mut input, &mut acts)?;
+        out.push(&bytes[from..input.at]);
+        if last {
+            return Ok(out);
         }
     }
 }
 
 pub fn read_sections(t: &Tables, big: bool, bytes: &[u8], rooms: &Rooms) -> Outcome {
     let mut made = Made::within(rooms.events, rooms.values);
-    let end = check(t, bytes.len(), rooms, None).and_then(|()| sections(t, &mut Input { bytes, at: 0, big }, &mut made));
+    let end = check(t, bytes.len(), rooms, None).and_then(|()| sections(t, big, bytes, &mut Reading::new(t, &mut made)));
     made.outcome(end, true)
 }
 
 /// The entry over lent vector records: `flat` lends four numbers for each vector.
 pub fn read_sections_lent(t: &Tables, big: bool, bytes: &[u8], rooms: &Rooms) -> Outcome {
     let mut made = Made::within(rooms.events, rooms.values);
-    let end = check(t, bytes.len(), rooms, Some(rooms.flat)).and_then(|()| sections(t, &mut Input { bytes, at: 0, big }, &mut made));
+    let end = check(t, bytes.len(), rooms, Some(rooms.flat)).and_then(|()| sections(t, big, bytes, &mut Reading::new(t, &mut made)));
     made.outcome(end, true)
 }
 
@@ -505,8 +556,8 @@ fn number(bytes: &[u8]) -> u64 {
     bytes.iter().fold(0, |n, b| n << 8 | u64::from(*b))
 }
 
-fn changes(t: &Tables, bytes: &[u8], made: &mut Made) -> Result<usize, Refusal> {
-    let mut gatherer = Gatherer::new(t);
+/// All change records: the bytes read.
+pub fn changes(t: &Tables, bytes: &[u8], acts: &mut dyn Acts) -> Result<usize, Refusal> {
     let mut open = false;
     let mut at = 0;
     loop {
@@ -525,18 +576,18 @@ fn changes(t: &Tables, bytes: &[u8], made: &mut Made) -> Result<usize, Refusal> 
             return refuse(7, at);
         }
         let record = &bytes[at..at + length];
-        let next = at + length;
+        let stands = At { record: at, unread: at + length };
         if (kind == 1) == open {
             return refuse(18, at);
         }
         match kind {
             1 => {
                 open = true;
-                made.time(number(&record[1..]), next)?;
+                acts.time(number(&record[1..]), stands)?;
             }
             4 => {
                 open = false;
-                gatherer.step_end(made, next)?;
+                acts.step_end(stands)?;
             }
             _ => {
                 let id = number(&record[1..5]) as usize;
@@ -547,21 +598,20 @@ fn changes(t: &Tables, bytes: &[u8], made: &mut Made) -> Result<usize, Refusal> 
                 if (kind == 2) != (signal <= 4) {
                     return refuse(19, at);
                 }
-                if kind == 2 {
-                    let mapped = byte_value(signal, record[5], at + 5)?;
-                    gatherer.byte(t, id, mapped, made, next)?;
-                } else {
-                    gatherer.wide(t, id, number(&record[5..]), made, next)?;
-                }
+                let value = match kind {
+                    2 => Value::Byte { byte: record[5], mapped: byte_value(signal, record[5], at + 5)? },
+                    _ => Value::Wide(number(&record[5..])),
+                };
+                acts.write(id, value, stands)?;
             }
         }
-        at = next;
+        at = stands.unread;
     }
 }
 
 pub fn read_changes(t: &Tables, bytes: &[u8], rooms: &Rooms) -> Outcome {
     let mut made = Made::within(rooms.events, rooms.values);
-    let end = check(t, bytes.len(), rooms, None).and_then(|()| changes(t, bytes, &mut made));
+    let end = check(t, bytes.len(), rooms, None).and_then(|()| changes(t, bytes, &mut Reading::new(t, &mut made)));
     made.outcome(end, true)
 }
 

@@ -1,5 +1,6 @@
 //! Inputs with chosen answers, real files, and single cases shown at length.
 use crate::cases::{self, answer_text, outcome_text, Case, Entry, Named};
+use crate::circle;
 use crate::host::Host;
 use crate::judge::{crate_answer, crate_run, judge, plain_outcome, render};
 use crate::plain::{self, Tables};
@@ -10,7 +11,9 @@ fn checked(named: &Named, host: &mut Host) -> Result<(), String> {
         let got = plain::listing(&named.case.input).trim_end().replace('\n', "|");
         return if got == want { Ok(()) } else { Err(got) };
     }
-    let got = outcome_text(&plain_outcome(&named.case));
+    let outcome = plain_outcome(&named.case);
+    // Of the entries with one output its bytes are shown.
+    let got = if named.case.entry.circle() { answer_text(&outcome.answer, &outcome.events) } else { outcome_text(&outcome) };
     if got != want {
         return Err(got);
     }
@@ -59,16 +62,20 @@ fn sample(dir: &str, name: &str) -> Result<String, String> {
         }
     }
     let case = Case { big, rooms: plain::LISTING_ROOMS, ..Case::new(Entry::Sections, &t, sections.to_vec()) };
-    match judge(&case, &mut Host::default()).difference {
-        Some(text) => Err(text),
-        None => Ok(format!(
-            "{} signals, {} vectors, {} section bytes, {} lines",
-            t.kinds.len(),
-            t.mins.len(),
-            sections.len(),
-            output.lines().count()
-        )),
+    let mut host = Host::default();
+    if let Some(text) = judge(&case, &mut host).difference {
+        return Err(text);
     }
+    let cut = plain::cut(&t, big, sections).map_err(|r| format!("sections: {:?}", r))?;
+    let cycle_bytes = circle::cycles(&t, big, &cut, &mut host)?;
+    Ok(format!(
+        "{} signals, {} vectors, {} section bytes, {} lines, {} bytes of cycle sections read back and written as they are",
+        t.kinds.len(),
+        t.mins.len(),
+        sections.len(),
+        output.lines().count(),
+        cycle_bytes
+    ))
 }
 
 pub fn samples(dir: &str) -> bool {
@@ -120,7 +127,7 @@ pub fn cases(file: &str) -> bool {
         let case = &named.case;
         let plain = plain_outcome(case);
         println!("{}\n  plain                 {}", named.name, outcome_text(&plain));
-        if plain.answer.number == 0 || plain.answer.number >= 7 {
+        if !case.entry.circle() && (plain.answer.number == 0 || plain.answer.number >= 7) {
             for (who, run) in [("the crate           ", crate_run(case, false)), ("the crate, checks on", crate_run(case, true))] {
                 let said = crate_answer(&run, case).map_or_else(|e| e, |(a, _, v)| answer_text(&a, &v));
                 let made = render(&run, run.calls.len(), case);

@@ -3,7 +3,7 @@ use crate::cases::{Case, Entry, AMPLE};
 use crate::gen::{self, Fault, Rng, Writer};
 use crate::host::Host;
 use crate::judge::{judge, plain_outcome, shrink, NAMED};
-use crate::plain::{self, Rooms, Tables};
+use crate::plain::{self, Rooms, Tables, MOST_OTHER};
 use std::collections::BTreeMap;
 
 #[derive(Default)]
@@ -75,7 +75,7 @@ impl Session {
     }
 
     /// Every string of at most `most` tokens.
-    fn strings<T: Copy>(&mut self, tokens: &[T], most: usize, case: &dyn Fn(&[T]) -> Option<Case>) -> Go {
+    pub fn strings<T: Copy>(&mut self, tokens: &[T], most: usize, case: &dyn Fn(&[T]) -> Option<Case>) -> Go {
         let mut word: Vec<usize> = vec![];
         loop {
             let chosen: Vec<T> = word.iter().map(|i| tokens[*i]).collect();
@@ -104,8 +104,8 @@ impl Session {
 }
 
 /// The case with rooms that are enough, by `slack` more than needed.
-fn fitted(mut case: Case, slack: usize) -> Case {
-    case.rooms = AMPLE;
+pub fn fitted(mut case: Case, slack: usize) -> Case {
+    case.rooms = Rooms { events: MOST_OTHER, values: MOST_OTHER, ..AMPLE };
     let made = plain_outcome(&case).made;
     let (room, list) = needs(&case.tables);
     case.rooms = Rooms {
@@ -184,6 +184,7 @@ const SECTION_FAULTS: [Fault; 10] = [
     Fault::Order,
 ];
 const CHANGE_FAULTS: [Fault; 6] = [Fault::None, Fault::Value, Fault::Id, Fault::Order, Fault::Kind, Fault::Bounds];
+const STEP_FAULTS: [Fault; 7] = [Fault::Value, Fault::Id, Fault::Order, Fault::Kind, Fault::Bounds, Fault::Rising, Fault::Jump];
 const EVENT_FAULTS: [Fault; 4] = [Fault::None, Fault::Order, Fault::Kind, Fault::Bounds];
 
 /// A random case of an entry, with ample rooms.
@@ -191,12 +192,15 @@ pub fn random(entry: Entry, rng: &mut Rng, t: &Tables) -> Case {
     let faults: &[Fault] = match entry {
         Entry::Changes => &CHANGE_FAULTS,
         Entry::Events => &EVENT_FAULTS,
+        Entry::Written => &STEP_FAULTS,
         _ => &SECTION_FAULTS,
     };
-    let fault = if rng.percent(50) { Fault::None } else { rng.pick(faults) };
+    // Most streams to be written are good.
+    let (good, whole) = if entry == Entry::Written { (75, 92) } else { (50, 80) };
+    let fault = if rng.percent(good) { Fault::None } else { rng.pick(faults) };
     let big = rng.percent(40);
     let mut case = Case::new(entry, t, vec![]);
-    case.big = big && matches!(entry, Entry::Sections | Entry::Lent);
+    case.big = big && !matches!(entry, Entry::Changes | Entry::Events);
     let writer = Writer::new(rng, t, case.big, fault);
     match entry {
         Entry::Changes => case.input = writer.changes(),
@@ -206,9 +210,10 @@ pub fn random(entry: Entry, rng: &mut Rng, t: &Tables) -> Case {
             case.input = input;
             case.values = values;
         }
+        Entry::Written => case.input = writer.steps(),
         _ => case.input = writer.sections(),
     }
-    if rng.percent(20) {
+    if rng.percent(100 - whole) {
         case.input = gen::damaged(rng, &case.input);
     }
     case
@@ -247,7 +252,7 @@ pub fn worked_tables() -> Tables {
     }
 }
 
-fn without_last(mut t: Tables) -> Tables {
+pub fn without_last(mut t: Tables) -> Tables {
     t.kinds.pop();
     t.refs.pop();
     t.vecs.pop();
@@ -285,7 +290,7 @@ fn cycle_of(body: &[u8], end: &[u8]) -> Vec<u8> {
 
 const CLOSED: &[u8] = b"\x00\x7fECY\0TAI\0\0\0\0\0\0\0\0\0";
 
-fn vector(width: u32, state: u8) -> Tables {
+pub fn vector(width: u32, state: u8) -> Tables {
     let n = width as usize;
     Tables {
         kinds: vec![if state == 1 { 3 } else { 1 }; n],
@@ -449,6 +454,8 @@ pub fn limits(s: &mut Session) -> Go {
             s.put(&Case { rooms: Rooms { flat: most, ..base }, ..Case::new(Entry::Lent, &none, tail.clone()) })?;
         }
         s.put(&Case { rooms: Rooms { events: most, ..base }, ..Case::new(Entry::Events, &none, vec![]) })?;
+        s.put(&Case { rooms: Rooms { events: most, ..base }, ..Case::new(Entry::Written, &none, vec![]) })?;
+        s.put(&Case { rooms: Rooms { events: most, ..base }, ..Case::new(Entry::Back, &none, tail.clone()) })?;
         s.put(&Case { values: vec![1; most], rooms: base, ..Case::new(Entry::Events, &none, vec![]) })?;
         // Times that repeat, and one byte of an unknown kind where the limit is past.
         let mut input = vec![0; most];

@@ -29,7 +29,10 @@ fn sizes(case: &Case) -> [usize; 7] {
 }
 
 fn within(case: &Case, most: [usize; 7]) -> bool {
-    case.entry != Entry::Lent && sizes(case).iter().zip(most).all(|(s, most)| *s <= most) && case.rooms.list <= most[1]
+    case.entry != Entry::Lent
+        && !case.entry.circle()
+        && sizes(case).iter().zip(most).all(|(s, most)| *s <= most)
+        && case.rooms.list <= most[1]
 }
 
 fn frame(case: &Case, o: &Outcome) -> Vec<u8> {
@@ -138,7 +141,7 @@ fn readings() -> Vec<Case> {
     let mut out: Vec<Case> = vec![];
     for named in parse(include_str!("../readings.txt")).expect("readings.txt is well formed") {
         let mut case = named.case;
-        if named.listing {
+        if named.listing || case.entry.circle() {
             continue;
         }
         if case.rooms.room == AMPLE.room {

@@ -31,7 +31,7 @@ use Rattle.encoder.specs.Rule.Keeping.{records, unset, keptOf, bytesOf}
 use Rattle.encoder.specs.Rule.Keeping.Laws.{kept-part}
 use Rattle.encoder.specs.Rule.Keeping as keeping
 use Rattle.doorquill.specs.declared.Answer.{Answer}
-use Rattle.doorquill.specs.Entries.{Outcome, answer, eventBytes, valueBytes, padded, Left, Lent, LeftKept, leaves, reads, readSections, readChanges, applyTimeRule}
+use Rattle.doorquill.specs.Entries.{Outcome, answer, eventBytes, valueBytes, padded, Left, Lent, LeftKept, leaves, leavesKept, reads, readSections, readChanges, applyTimeRule}
 use Rattle.doorquill.specs.Entries.Laws.{Allowed, padded-length, padded-front, padded-past, padded-nothing, answer-events, answer-values, refusal-rest, refusal-events, refusal-values, acceptance-place, allowed-number, allowed-read, allowed-events, allowed-values}
 use Rattle.doorquill.specs.Entries.Scanned.{Scanned, sections-scanned, changes-scanned}
 use Rattle.doorquill.specs.Entries.Reads as reading
@@ -41,11 +41,11 @@ use Rattle.doorquill.specs.Entries.Keeps.{limitsOf, ruleOutcome}
 
 -- ---- demand 1
 
--- of an answer, over an input of so many bytes
-pub record Answers (input : ℕ) (a : Answer) : Type 0 where
+-- of an answer, over an input of so many bytes, with refusals up to the highest number
+pub record Answers (most input : ℕ) (a : Answer) : Type 0 where
   -- "A refusal gives a number and a place with all other fields zero, ..
   pub refusal : a .number ≢ 0 → (a .read ≡ 0) × (a .events ≡ 0) × (a .values ≡ 0) × (a .steps ≡ 0)
-  pub number : a .number ≤ 20
+  pub number : a .number ≤ most
   pub acceptance : a .number ≡ 0 → a .place ≡ 0
   -- no more is read than there is
   pub read : a .read ≤ input
@@ -61,7 +61,7 @@ pub record Output (a : Answer) (reported size : ℕ) (buffer : List ℕ) : Type 
   pub past : drop reported buffer ≡ replicate (size - reported) 0
 
 pub record Demand1 (t : Lists) (input : ℕ) (l : Lent) (x : Left) : Type 0 where
-  pub answers : Answers input (x .answer)
+  pub answers : Answers 20 input (x .answer)
   pub events : Output (x .answer) (x .answer .events) (l .events) (x .events)
   pub values : Output (x .answer) (x .answer .values) (l .values) (x .values)
   -- "Working buffers are zero at every return."
@@ -71,7 +71,7 @@ pub record Demand1 (t : Lists) (input : ℕ) (l : Lent) (x : Left) : Type 0 wher
   pub checks : (n p : ℕ) → checksOf t input l ≡ Refused n p → (x .answer .number ≡ n) × (x .answer .place ≡ p)
 
 pub record RuleDemand1 (s : List ℕ) (values room : ℕ) (x : LeftKept) : Type 0 where
-  pub answers : Answers (length s) (x .answer)
+  pub answers : Answers 20 (length s) (x .answer)
   pub kept : Output (x .answer) (x .answer .events) room (x .kept)
   -- "for the time rule, value bytes are 0"
   pub no-values : x .answer .values ≡ 0
@@ -110,13 +110,13 @@ pub record RuleDemand2 (s : List ℕ) (values room : ℕ) (x : LeftKept) : Type 
 
 -- ---- their proofs
 
-module _ (input events values : ℕ) (o : Outcome) (a : Allowed input events values o) where
-  answers-of : Answers input (answer o)
+module _ (most input events values : ℕ) (o : Outcome) (a : Allowed most input events values o) where
+  pub answers-of : Answers most input (answer o)
   answers-of = record {
     refusal = refusal-rest o;
-    number = allowed-number input events values o a;
-    acceptance = acceptance-place input events values o a;
-    read = allowed-read input events values o a;
+    number = allowed-number most input events values o a;
+    acceptance = acceptance-place most input events values o a;
+    read = allowed-read most input events values o a;
   }
 
   output-of : (bytes : List ℕ) (reported size : ℕ) → reported ≡ length bytes → length bytes ≤ size → (answer o .number ≢ 0 → bytes ≡ []) → Output (answer o) reported size (padded size bytes)
@@ -127,18 +127,18 @@ module _ (input events values : ℕ) (o : Outcome) (a : Allowed input events val
     past = padded-past size bytes reported e;
   }
 
-  events-of : Output (answer o) (answer o .events) events (padded events (eventBytes o))
-  events-of = output-of (eventBytes o) (answer o .events) events (answer-events o) (allowed-events input events values o a) (refusal-events o)
+  pub events-of : Output (answer o) (answer o .events) events (padded events (eventBytes o))
+  events-of = output-of (eventBytes o) (answer o .events) events (answer-events o) (allowed-events most input events values o a) (refusal-events o)
 
   values-of : Output (answer o) (answer o .values) values (padded values (valueBytes o))
-  values-of = output-of (valueBytes o) (answer o .values) values (answer-values o) (allowed-values input events values o a) (refusal-values o)
+  values-of = output-of (valueBytes o) (answer o .values) values (answer-values o) (allowed-values most input events values o a) (refusal-values o)
 
 -- a reading, whatever scans its input
 module _ (t : Lists) (input : ℕ) (l : Lent) (sc : Scan) (w : Scanned input sc) where
   abbrev result : Outcome
   result = reads t input l sc
 
-  allowed : Allowed input (l .events) (l .values) result
+  allowed : Allowed 20 input (l .events) (l .values) result
   allowed = reading.read-allowed t input l sc w
 
   accepted : answer result .number ≡ 0 → reading.Accepted t input l sc (answer result .read) (eventBytes result) (valueBytes result) (answer result .steps)
@@ -147,9 +147,9 @@ module _ (t : Lists) (input : ℕ) (l : Lent) (sc : Scan) (w : Scanned input sc)
   demand1 : Demand1 t input l (leaves l result)
   unfolding leaves answer
   demand1 = record {
-    answers = answers-of input (l .events) (l .values) result allowed;
-    events = events-of input (l .events) (l .values) result allowed;
-    values = values-of input (l .events) (l .values) result allowed;
+    answers = answers-of 20 input (l .events) (l .values) result allowed;
+    events = events-of 20 input (l .events) (l .values) result allowed;
+    values = values-of 20 input (l .events) (l .values) result allowed;
     room = refl;
     list = refl;
     checks = λ n p c. let e = reading.read-checks t input l sc n p c in (ap (λ o. answer o .number) e, ap (λ o. answer o .place) e);
@@ -220,16 +220,16 @@ module _ (s : List ℕ) (values room : ℕ) where
   kept = ruling.ruling-accepted s values room
 
   pub rule-1 : RuleDemand1 s values room (applyTimeRule s values room)
-  unfolding applyTimeRule answer
+  unfolding applyTimeRule leavesKept answer
   rule-1 = record {
-    answers = answers-of (length s) room 0 rule (ruling.rule-allowed s values room);
-    kept = events-of (length s) room 0 rule (ruling.rule-allowed s values room);
-    no-values = omega (arith, answer-values rule, allowed-values (length s) room 0 rule (ruling.rule-allowed s values room));
+    answers = answers-of 20 (length s) room 0 rule (ruling.rule-allowed s values room);
+    kept = events-of 20 (length s) room 0 rule (ruling.rule-allowed s values room);
+    no-values = omega (arith, answer-values rule, allowed-values 20 (length s) room 0 rule (ruling.rule-allowed s values room));
     checks = λ c. (rw c, rw c);
   }
 
   pub rule-2 : RuleDemand2 s values room (applyTimeRule s values room)
-  unfolding applyTimeRule
+  unfolding applyTimeRule leavesKept
   rule-2 = record {
     whole = λ h. (kept h .by-rule .whole, kept h .by-rule .read);
     kept = λ h. padded-front room (eventBytes rule) (answer rule .events) (answer-events rule) ∙ (kept h .events ∙ kept h .by-rule .events);

@@ -87,10 +87,13 @@ readSections t flag s l = leaves l (reads t (length s) l (scanSections t flag s)
 unfoldable pub readChanges : Lists → List ℕ → Lent → Left
 readChanges t s l = leaves l (reads t (length s) l (scanChanges t s))
 
--- the time rule: its answer, and what the room for kept events holds
+-- a call with one output, as the time rule: its answer, and what this output holds
 pub record LeftKept : Type 0 where
   pub answer : Answer
   pub kept : List ℕ
+
+unfoldable pub leavesKept : ℕ → Outcome → LeftKept
+leavesKept n o = record { answer = answer o; kept = padded n (eventBytes o) }
 
 unfoldable pub ruled : Ruled → Outcome
 ruled (rules.ruled i k) = accepted i (k .events) [] (k .steps)
@@ -98,5 +101,4 @@ ruled (rules.refused n p) = refused n p
 
 unfoldable pub applyTimeRule : List ℕ → (values room : ℕ) → LeftKept
 applyTimeRule s values room =
-    let o = cond (withinLimit (length s) && withinLimit values && withinLimit room) (ruled (timeRule s values room)) (refused 1 0) in
-    record { answer = answer o; kept = padded room (eventBytes o) }
+    leavesKept room (cond (withinLimit (length s) && withinLimit values && withinLimit room) (ruled (timeRule s values room)) (refused 1 0))

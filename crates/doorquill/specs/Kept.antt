@@ -1,4 +1,4 @@
--- What the functions inside the time rule's entry leave, and what their proofs search.
+-- What the functions inside the time rule's entry leave, and what their proofs search; other calls with one output end by the same functions.
 -- Assumes nothing.
 use mathlib.Core.Path.{_≡_, refl, sym, ap, subst, _∙_}
 use Prim.Native.Nat.{ℕ, _+_, _-_, _≤_}
@@ -15,7 +15,7 @@ use Rattle.encoder.specs.Rule.Promise.{Says, Applies}
 use Rattle.encoder.specs.declared.Applied.{Applied}
 use Rattle.encoder.specs.declared.Applied.the-variants.{Done, Refused}
 use Rattle.doorquill.specs.declared.Answer.{Answer}
-use Rattle.doorquill.specs.Entries.{Outcome, accepted, refused, answer, eventBytes, padded, LeftKept, ruled, applyTimeRule}
+use Rattle.doorquill.specs.Entries.{Outcome, accepted, refused, answer, eventBytes, padded, LeftKept, leavesKept, ruled, applyTimeRule}
 
 -- ---- zeros
 
@@ -37,10 +37,6 @@ pub ruleset past-laws = (cleared-past, answer-refused, limits-are)
 
 -- ---- the end of a call
 
--- the answer, and what the room for kept events holds
-unfoldable pub leavesKept : ℕ → Outcome → LeftKept
-leavesKept n o = record { answer = answer o; kept = padded n (eventBytes o) }
-
 -- how the rule's code ended: the first bytes of the room are kept
 unfoldable pub ended : List ℕ → Applied → Outcome
 ended kept (Done read n steps) = accepted read (take n kept) [] steps
@@ -59,21 +55,25 @@ pub refused-kept : (kept : List ℕ) {kept' : List ℕ} {r : Answer} (number pla
 unfolding leavesKept eventBytes
 refused-kept kept number place e q = rw (e, q)
 
+pub accepted-kept : (kept : List ℕ) (read n steps : ℕ) → n ≤ length kept → {kept' : List ℕ} → kept' ≡ padded (length kept) (take n kept) → {i m : ℕ} → i ≡ read → m ≡ n
+    → _≡_ {A = LeftKept} (record { answer = record { number = 0; place = 0; read = i; events = m; values = 0; steps = steps }; kept = kept' }) (leavesKept (length kept) (accepted read (take n kept) [] steps))
+unfolding leavesKept answer eventBytes
+accepted-kept kept read n steps h p q o = rw (p, q, o, length-take-le n kept h)
+
 module _ (kept : List ℕ) {a : Applied} where
   module _ {read n steps : ℕ} (e : a ≡ Done read n steps) where
     pub held-within : Held kept a → n ≤ length kept
     held-within h = subst (Within kept) e (h .within)
 
-    pub ended-done : Held kept a → {kept' : List ℕ} → kept' ≡ padded (length kept) (take n kept) → {i m : ℕ} → i ≡ read → m ≡ n
-        → _≡_ {A = LeftKept} (record { answer = record { number = 0; place = 0; read = i; events = m; values = 0; steps = steps }; kept = kept' }) (leavesKept (length kept) (ended kept a))
-    unfolding leavesKept ended answer eventBytes
-    ended-done h p q o = rw (e, p, q, o, length-take-le n kept (held-within h))
+    pub ended-done : {x : LeftKept} → x ≡ leavesKept (length kept) (accepted read (take n kept) [] steps) → x ≡ leavesKept (length kept) (ended kept a)
+    unfolding ended
+    ended-done h = rw e h
 
   pub ended-refused : {number place : ℕ} → a ≡ Refused number place → {p : ℕ} → p ≡ place → {x : LeftKept} → x ≡ leavesKept (length kept) (refused number p) → x ≡ leavesKept (length kept) (ended kept a)
   unfolding ended
   ended-refused e q h = rw e (rw q at h)
 
-pub ruleset refuse-laws = (refused-kept)
+pub ruleset one-laws = (refused-kept, accepted-kept)
 
 pub ruleset end-laws = (held-within, ended-done, ended-refused)
 

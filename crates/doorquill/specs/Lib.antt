@@ -6,3 +6,4 @@ pub mod Demands
 pub mod Reading
 pub mod Begin
 pub mod Lent
+pub mod Written

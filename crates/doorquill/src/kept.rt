@@ -1,4 +1,4 @@
-// How the time rule ends.
+// How a call with one output ends: the time rule, whose output is what it keeps, and the requests.
 use crate::Answer;
 use crate::ends::clear_past;
 use crate::ends::refused;
@@ -7,17 +7,35 @@ use encoder::Applied;
 use tables::within_limit;
 ghost use mathlib.Core.Path.{_≡_};
 ghost use mathlib.Core.Bool.{_&&_};
-ghost use lib.ListN.{length};
+ghost use mathlib.Core.List.{[]};
+ghost use Prim.Native.Nat.{_≤_};
+ghost use lib.ListN.{length, take};
 ghost use Rattle.tables.specs.Checks.{withinLimit};
-ghost use Rattle.doorquill.specs.Entries.{refused, LeftKept};
-ghost use Rattle.doorquill.specs.Kept.{Held, ended, leavesKept};
+ghost use Rattle.doorquill.specs.Entries.{accepted, refused, LeftKept, leavesKept};
+ghost use Rattle.doorquill.specs.Kept.{Held, ended};
 
-// A refusal of the time rule.
+// A refusal: the output becomes zero.
 pub(crate) fn refuse_kept(kept: &mut [u8], number: u64, place: u64) -> Answer
     ensures { λ r. ⌜ _≡_ {A = LeftKept} (record { answer = r; kept = now (kept .exit) }) (leavesKept (length (now (kept .entry))) (refused number place)) ⌝ }
 {
     clear_past(kept, 0);
     refused(number, place)
+}
+
+// An accepted end: what lies past the reported bytes becomes zero.
+pub(crate) fn accept_kept(kept: &mut [u8], read: usize, n: usize, steps: u64) -> Answer
+    requires { ⌜ n ≤ length (now kept) ⌝ }
+    ensures { λ r. ⌜ _≡_ {A = LeftKept} (record { answer = r; kept = now (kept .exit) }) (leavesKept (length (now (kept .entry))) (accepted read (take n (now (kept .entry))) [] steps)) ⌝ }
+{
+    clear_past(kept, n);
+    Answer {
+        number: 0,
+        place: 0,
+        read: widen(read),
+        events: widen(n),
+        values: 0,
+        steps,
+    }
 }
 
 // The end of the time rule.
@@ -30,17 +48,7 @@ pub(crate) fn end_kept(kept: &mut [u8], a: Applied) -> Answer
             read,
             kept: n,
             steps,
-        } => {
-            clear_past(kept, n);
-            Answer {
-                number: 0,
-                place: 0,
-                read: widen(read),
-                events: widen(n),
-                values: 0,
-                steps,
-            }
-        }
+        } => accept_kept(kept, read, n, steps),
         Applied::Refused(number, place) => refuse_kept(kept, number, widen(place)),
     }
 }

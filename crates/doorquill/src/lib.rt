@@ -1,11 +1,14 @@
 // The public entries.
 mod ends;
+mod filled;
 mod kept;
 mod lent;
 mod passed;
 
 use encoder::apply;
 use ends::refuse;
+use filled::records_back;
+use filled::sections_written;
 use kept::end_kept;
 use kept::refuse_kept;
 use kept::within_limits;
@@ -14,6 +17,7 @@ use lent::room_for;
 use lent::unpack;
 use passed::changes_passed;
 use passed::sections_passed;
+use sections_writer::checks_without_room;
 use tables::Check;
 use tables::checks;
 ghost use mathlib.Core.Path.{_≡_};
@@ -23,6 +27,7 @@ ghost use Rattle.doorquill.specs.Entries.{readSections, readChanges, Lef
 ghost use Rattle.doorquill.specs.Reading.{leftOf, lentOf};
 ghost use Rattle.doorquill.specs.Lent.Flat.{leftLent};
 ghost use Rattle.doorquill.specs.Lent.{readSectionsLent};
+ghost use Rattle.doorquill.specs.Written.{writeSections, readBack};
 
 // Document 01's six numbers.
 #[repr(C)]
@@ -190,4 +195,68 @@ pub extern "C" fn doorquill_time_rule(events: &[u8], values: &[u8], kept: &mut [
         return end_kept(kept, a);
     }
     refuse_kept(kept, 1, 0)
+}
+
+// Sections written from change records.
+#[no_mangle]
+pub extern "C" fn doorquill_write_sections(
+    kinds: &[u8],
+    refs: &[u32],
+    vecs: &[u32],
+    mins: &[u32],
+    maxs: &[u32],
+    states: &[u8],
+    vec_refs: &[u32],
+    big_endian: bool,
+    changes: &[u8],
+    out: &mut [u8],
+) -> Answer
+    ensures { λ r. ⌜ _≡_ {A = LeftKept} (record { answer = r; kept = now (out .exit) }) (writeSections (lists (now (kinds .entry)) (now (refs .entry)) (now (vecs .entry)) (now (mins .entry)) (now (maxs .entry)) (now (states .entry)) (now («vec_refs» .entry))) «big_endian» (now (changes .entry)) (length (now (out .entry)))) ⌝ }
+{
+    match checks_without_room(
+        kinds,
+        refs,
+        vecs,
+        mins,
+        maxs,
+        states,
+        vec_refs,
+        changes.len(),
+        out.len(),
+    ) {
+        Check::Passed => sections_written(kinds, big_endian, changes, out),
+        Check::Refused(number, place) => refuse_kept(out, number, place),
+    }
+}
+
+// Section bytes read back into change records.
+#[no_mangle]
+pub extern "C" fn doorquill_read_back(
+    kinds: &[u8],
+    refs: &[u32],
+    vecs: &[u32],
+    mins: &[u32],
+    maxs: &[u32],
+    states: &[u8],
+    vec_refs: &[u32],
+    big_endian: bool,
+    input: &[u8],
+    out: &mut [u8],
+) -> Answer
+    ensures { λ r. ⌜ _≡_ {A = LeftKept} (record { answer = r; kept = now (out .exit) }) (readBack (lists (now (kinds .entry)) (now (refs .entry)) (now (vecs .entry)) (now (mins .entry)) (now (maxs .entry)) (now (states .entry)) (now («vec_refs» .entry))) «big_endian» (now (input .entry)) (length (now (out .entry)))) ⌝ }
+{
+    match checks_without_room(
+        kinds,
+        refs,
+        vecs,
+        mins,
+        maxs,
+        states,
+        vec_refs,
+        input.len(),
+        out.len(),
+    ) {
+        Check::Passed => records_back(kinds, big_endian, input, out),
+        Check::Refused(number, place) => refuse_kept(out, number, place),
+    }
 }

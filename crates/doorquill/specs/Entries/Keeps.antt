@@ -67,20 +67,20 @@ module _ (s : List ℕ) (values room : ℕ) where
   why-number n p (inr (b, inl o)) = (omega (arith, o .number), omega (arith, o .number))
   why-number n p (inr (b, inr (e, o))) = (omega arith, omega arith)
 
-  allowed : (o : Outcome) → ruleOutcome s values room ≡ o → Allowed (length s) room 0 o
+  allowed : (o : Outcome) → ruleOutcome s values room ≡ o → Allowed 20 (length s) room 0 o
   unfolding Allowed
   allowed (accepted i es vs n) e =
       let a = rule-accepted i es vs n e in
       (omega (arith, a .by-rule .read), rw (a .events) (a .by-rule .fits), rw (a .no-values) (omega arith))
   allowed (refused n p) e = why-number n p (rule-refused n p e)
 
-  pub rule-allowed : Allowed (length s) room 0 (ruleOutcome s values room)
+  pub rule-allowed : Allowed 20 (length s) room 0 (ruleOutcome s values room)
   rule-allowed = allowed (ruleOutcome s values room) refl
 
   -- by its number an answer says whether it is an acceptance
   pub ruling-accepted : answer (ruleOutcome s values room) .number ≡ 0
       → Accepted (answer (ruleOutcome s values room) .read) (eventBytes (ruleOutcome s values room)) (valueBytes (ruleOutcome s values room)) (answer (ruleOutcome s values room) .steps)
-  ruling-accepted h = rule-accepted _ _ _ _ (acceptance-is (length s) room 0 (ruleOutcome s values room) rule-allowed h)
+  ruling-accepted h = rule-accepted _ _ _ _ (acceptance-is 20 (length s) room 0 (ruleOutcome s values room) rule-allowed h)
 
   pub ruling-refused : answer (ruleOutcome s values room) .number ≢ 0 → Why (answer (ruleOutcome s values room) .number) (answer (ruleOutcome s values room) .place)
   ruling-refused h = rule-refused _ _ (refusal-is (ruleOutcome s values room) h)

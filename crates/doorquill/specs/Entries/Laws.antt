@@ -33,10 +33,10 @@ padded-nothing size l e = rw (e, sub-zero)
 
 -- ---- the six numbers
 
--- an outcome that keeps to what was read and lent, and whose refusal has one of the numbers of 01's table
-unfoldable pub Allowed : (input events values : ℕ) → Outcome → Type 0
-Allowed input events values (accepted i es vs n) = (i ≤ input) × (length es ≤ events) × (length vs ≤ values)
-Allowed input events values (refused n p) = (1 ≤ n) × (n ≤ 20)
+-- an outcome that keeps to what was read and lent, and whose refusal has one of the numbers up to the highest: 20 in 01's table
+unfoldable pub Allowed : (most input events values : ℕ) → Outcome → Type 0
+Allowed most input events values (accepted i es vs n) = (i ≤ input) × (length es ≤ events) × (length vs ≤ values)
+Allowed most input events values (refused n p) = (1 ≤ n) × (n ≤ most)
 
 pub answer-events : (o : Outcome) → answer o .events ≡ length (eventBytes o)
 unfolding answer eventBytes
@@ -70,34 +70,34 @@ unfolding answer
 refusal-is (accepted i es vs n) h = absurd (h refl)
 refusal-is (refused n p) h = refl
 
-module _ (input events values : ℕ) where
+module _ (most input events values : ℕ) where
   -- .. or that it is none
-  pub acceptance-is : (o : Outcome) → Allowed input events values o → answer o .number ≡ 0 → o ≡ accepted (answer o .read) (eventBytes o) (valueBytes o) (answer o .steps)
+  pub acceptance-is : (o : Outcome) → Allowed most input events values o → answer o .number ≡ 0 → o ≡ accepted (answer o .read) (eventBytes o) (valueBytes o) (answer o .steps)
   unfolding Allowed answer eventBytes valueBytes
   acceptance-is (accepted i es vs n) a h = refl
   acceptance-is (refused n p) a h = absurd (omega arith)
 
-  pub acceptance-place : (o : Outcome) → Allowed input events values o → answer o .number ≡ 0 → answer o .place ≡ 0
+  pub acceptance-place : (o : Outcome) → Allowed most input events values o → answer o .number ≡ 0 → answer o .place ≡ 0
   unfolding Allowed answer
   acceptance-place (accepted i es vs n) a h = refl
   acceptance-place (refused n p) a h = absurd (omega arith)
 
-  pub allowed-number : (o : Outcome) → Allowed input events values o → answer o .number ≤ 20
+  pub allowed-number : (o : Outcome) → Allowed most input events values o → answer o .number ≤ most
   unfolding Allowed answer
   allowed-number (accepted i es vs n) a = omega arith
   allowed-number (refused n p) a = a .1
 
-  pub allowed-read : (o : Outcome) → Allowed input events values o → answer o .read ≤ input
+  pub allowed-read : (o : Outcome) → Allowed most input events values o → answer o .read ≤ input
   unfolding Allowed answer
   allowed-read (accepted i es vs n) a = a .0
   allowed-read (refused n p) a = omega arith
 
-  pub allowed-events : (o : Outcome) → Allowed input events values o → length (eventBytes o) ≤ events
+  pub allowed-events : (o : Outcome) → Allowed most input events values o → length (eventBytes o) ≤ events
   unfolding Allowed eventBytes
   allowed-events (accepted i es vs n) a = a .1
   allowed-events (refused n p) a = omega arith
 
-  pub allowed-values : (o : Outcome) → Allowed input events values o → length (valueBytes o) ≤ values
+  pub allowed-values : (o : Outcome) → Allowed most input events values o → length (valueBytes o) ≤ values
   unfolding Allowed valueBytes
   allowed-values (accepted i es vs n) a = a .2
   allowed-values (refused n p) a = omega arith

@@ -115,18 +115,18 @@ module _ (t : Lists) (input : ℕ) (l : Lent) (sc : Scan) where
     why-number n p (inr (c, inl (f, o))) = let h = w .number n p f in (omega arith, omega arith)
     why-number n p (inr (c, inr (e, o))) = (omega arith, omega arith)
 
-    allowed : (o : Outcome) → reads t input l sc ≡ o → Allowed input (l .events) (l .values) o
+    allowed : (o : Outcome) → reads t input l sc ≡ o → Allowed 20 input (l .events) (l .values) o
     unfolding Allowed
     allowed (accepted i es vs n) e = let a = read-accepted i es vs n e in (w .end i (a .ended), a .within .0, a .within .1)
     allowed (refused n p) e = why-number n p (read-refused n p e)
 
-    pub read-allowed : Allowed input (l .events) (l .values) (reads t input l sc)
+    pub read-allowed : Allowed 20 input (l .events) (l .values) (reads t input l sc)
     read-allowed = allowed (reads t input l sc) refl
 
     -- by its number an answer says whether it is an acceptance
     pub reading-accepted : answer (reads t input l sc) .number ≡ 0
         → Accepted (answer (reads t input l sc) .read) (eventBytes (reads t input l sc)) (valueBytes (reads t input l sc)) (answer (reads t input l sc) .steps)
-    reading-accepted h = read-accepted _ _ _ _ (acceptance-is input (l .events) (l .values) (reads t input l sc) read-allowed h)
+    reading-accepted h = read-accepted _ _ _ _ (acceptance-is 20 input (l .events) (l .values) (reads t input l sc) read-allowed h)
 
     -- 16 is given for nothing else
     only-16 : (p : ℕ) → Why 16 p → Overflows t (roomsOf l) sc (begin (gathers t)) empty p

@@ -33,7 +33,7 @@ same-by (Refused n p) b later l o = refl
 -- ---- demand 1, of every input
 
 pub record LentDemand1 (c : Check) (input : ℕ) (l : Lent) (size : ℕ) (x : LeftLent) : Type 0 where
-  pub answers : Answers input (x .left .answer)
+  pub answers : Answers 20 input (x .left .answer)
   pub events : Output (x .left .answer) (x .left .answer .events) (l .events) (x .left .events)
   pub values : Output (x .left .answer) (x .left .answer .values) (l .values) (x .left .values)
   -- "Working buffers are zero at every return."

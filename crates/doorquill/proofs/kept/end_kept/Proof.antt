@@ -7,20 +7,14 @@ use Rattle.doorquill.proofs.kept.end_kept.Tie as tie
 enum-known-a : tie.Need-enum-known-a
 enum-known-a c = search (end-laws, needs)
 
-clear-past-requires : tie.Need-clear-past-requires
-clear-past-requires c κs = search (end-laws, needs)
-
-widen-requires : tie.Need-widen-requires
-widen-requires c κs = search (end-laws, needs)
-
-widen-requires-2 : tie.Need-widen-requires-2
-widen-requires-2 c κs = search (end-laws, needs)
+accept-kept-requires : tie.Need-accept-kept-requires
+accept-kept-requires c κs = search (end-laws, needs)
 
 enum-known-a-2 : tie.Need-enum-known-a-2
 enum-known-a-2 c = search (end-laws, needs)
 
-widen-requires-3 : tie.Need-widen-requires-3
-widen-requires-3 c κs = search (end-laws, needs)
+widen-requires : tie.Need-widen-requires
+widen-requires c κs = search (end-laws, needs)
 
 refuse-kept-requires : tie.Need-refuse-kept-requires
 refuse-kept-requires c κs = search (end-laws, needs)
@@ -42,11 +36,9 @@ end-kept-spec =
     tie.close
     (tie.spec
     enum-known-a
-    clear-past-requires
-    widen-requires
-    widen-requires-2
+    accept-kept-requires
     enum-known-a-2
-    widen-requires-3
+    widen-requires
     refuse-kept-requires
     same-length
     returns

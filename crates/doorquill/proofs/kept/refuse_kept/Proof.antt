@@ -1,20 +1,20 @@
--- `doorquill::kept::refuse_kept` meets its contract: each need follows from `refuse-laws`. Assumes nothing.
-use Rattle.doorquill.specs.Kept.{refuse-laws}
+-- `doorquill::kept::refuse_kept` meets its contract: each need follows from `one-laws`. Assumes nothing.
+use Rattle.doorquill.specs.Kept.{one-laws}
 use borrow.Author.Needs.{needs}
 use Rattle.doorquill.proofs.kept.refuse_kept.Statement.{statement}
 use Rattle.doorquill.proofs.kept.refuse_kept.Tie as tie
 
 clear-past-requires : tie.Need-clear-past-requires
-clear-past-requires c κs = search (refuse-laws, needs)
+clear-past-requires c κs = search (one-laws, needs)
 
 refused-requires : tie.Need-refused-requires
-refused-requires c κs = search (refuse-laws, needs)
+refused-requires c κs = search (one-laws, needs)
 
 same-length : tie.Need-same-length
-same-length c = search (refuse-laws, needs)
+same-length c = search (one-laws, needs)
 
 returns : tie.Need-returns
-returns c = search (refuse-laws, needs)
+returns c = search (one-laws, needs)
 
 pub refuse-kept-spec : {M : Type 1} → statement M
 refuse-kept-spec = tie.close (tie.spec clear-past-requires refused-requires same-length returns)

@@ -1,0 +1,28 @@
+-- Sections written from change records, and section bytes read back into them: the answer and what the output holds at the end, from the inputs alone.
+-- Assumes nothing.
+use Prim.Native.Nat.{ℕ}
+use mathlib.Core.Bool.{Bool}
+use mathlib.Core.List.{List, []}
+use lib.ListN.{length}
+use Rattle.written.specs.Ended.{Ended}
+use Rattle.written.specs.Ended as ended
+use Rattle.tables.specs.Lists.{Lists}
+use Rattle.sections_writer.specs.Checked.{checksWithoutRoom}
+use Rattle.sections_writer.specs.Writer as writer
+use Rattle.read_back.specs.ReadBack as back
+use Rattle.doorquill.specs.Entries.{Outcome, accepted, refused, LeftKept, leavesKept, checked}
+pub mod Laws
+pub mod Unique
+pub mod Rows
+
+-- "A request's other output counts as event bytes, with 0 value bytes; steps are then time records read."
+unfoldable pub filled : Ended → Outcome
+filled (ended.wrote i bs n) = accepted i bs [] n
+filled (ended.refused n p) = refused n p
+
+-- "Checks 1 to 6 come first": 6 asks about working room, of which these calls are lent none and need none, so it is never given
+unfoldable pub writeSections : Lists → Bool → List ℕ → (room : ℕ) → LeftKept
+writeSections t flag s room = leavesKept room (checked (checksWithoutRoom t (length s) room) (filled (writer.writeSections t flag s room)))
+
+unfoldable pub readBack : Lists → Bool → List ℕ → (room : ℕ) → LeftKept
+readBack t flag s room = leavesKept room (checked (checksWithoutRoom t (length s) room) (filled (back.readBack t flag s room)))

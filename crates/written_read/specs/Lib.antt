@@ -1,0 +1,3 @@
+-- Assumes nothing.
+pub mod Entry
+pub mod Demands
