@@ -3,5 +3,6 @@ pub mod Memory
 pub mod Follows
 pub mod Makes
 pub mod Writes
+pub mod Quiet
 pub mod Ends
 pub mod Begin

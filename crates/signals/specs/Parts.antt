@@ -7,7 +7,7 @@ use lib.ListN.{length}
 use lib.Dec.{ltb, eqb}
 use Rattle.slices.specs.Splice.{part}
 use Rattle.numbers.specs.Fixed.{fixed, negative}
-use Rattle.numbers.specs.Marks.{esn}
+use Rattle.numbers.specs.Marks.{esn, ecy}
 use Rattle.numbers.specs.declared.marks.Section.{Section}
 use Rattle.numbers.specs.declared.marks.Section.the-variants.{Snapshot, Cycle, Directory, Tailer, Unknown}
 use Rattle.tables.specs.Lists.{Lists, lists, nth, signals}
@@ -23,11 +23,13 @@ use Rattle.gather.specs.declared.Wrote.{Wrote}
 use Rattle.gather.specs.declared.Wrote.the-variants.{Done, Full}
 use Rattle.gather.specs.declared.Part.{Part}
 use Rattle.gather.specs.declared.Part.the-variants.{Went, Out}
-use Rattle.signals.specs.Sections.{then, field, endMark, eachValue, nextId, changeList}
+use Rattle.signals.specs.Sections.{then, field, endMark, eachValue, nextId, changeList, nextTime, steps}
 use Rattle.signals.specs.declared.Place.{Place}
 use Rattle.signals.specs.declared.Place.the-variants.{At, Bad}
 use Rattle.signals.specs.declared.NextId.{NextId}
 use Rattle.signals.specs.declared.NextId.the-variants.{Id, End}
+use Rattle.signals.specs.declared.NextTime.{NextTime}
+use Rattle.signals.specs.declared.NextTime.the-variants as times
 use Rattle.signals.specs.declared.Source.{Source}
 use Rattle.signals.specs.declared.Source.the-variants.{Each, Listed, One}
 
@@ -98,6 +100,23 @@ toEnd changes = and-then changes (λ j. say stepEnd j (done j))
 
 unfoldable pub aStep : (u i : ℕ) → (ℕ → Scan) → Scan
 aStep u i changes = say (time u) i (toEnd (changes i))
+
+-- the step after one: a snapshot has none
+abbrev pub timeAfter : Source → List ℕ → (u i : ℕ) → NextTime
+timeAfter Each s u i = times.End i
+timeAfter Listed s u i = nextTime s u i
+timeAfter (One o v) s u i = times.End i
+
+abbrev pub markOf : Source → List ℕ
+markOf Each = esn
+markOf Listed = ecy
+markOf (One o v) = esn
+
+-- .. and all of them, from one on whose time is known, with the end mark
+abbrev pub stepsOf : Source → Lists → Bool → List ℕ → (fuel u i : ℕ) → Scan
+stepsOf Each t flag s fuel u i = and-then (aStep u i (writesOf Each t s)) (λ j. endMark esn s j)
+stepsOf Listed t flag s fuel u i = say (time u) i (steps t flag s fuel u i)
+stepsOf (One o v) t flag s fuel u i = and-then (aStep u i (writesOf (One o v) t s)) (λ j. endMark esn s j)
 
 -- of a snapshot, what follows its head
 unfoldable pub snapshotBody : Lists → List ℕ → (u i : ℕ) → Scan

@@ -28,6 +28,7 @@ pub mod Acts
 pub mod Going
 pub mod Ends
 pub mod Loops
+pub mod Along
 pub mod Steps
 pub mod Cycles
 pub mod Heads

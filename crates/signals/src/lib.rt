@@ -16,12 +16,20 @@ use numbers::marks::is_mark;
 use numbers::marks::section_at;
 use slices::Field;
 use slices::field_at;
+use states::States;
+use states::std_logic;
 use values::Read;
 use values::read_signed;
 use values::read_unsigned;
 use values::read_value;
+use vecbuffer::VecBufferInfo;
+use vecbuffer::flags_of;
+use vecbuffer::info_of;
+use vecbuffer::is_quiet;
+use vecbuffer::write_new;
 ghost use mathlib.Core.Path.{_≡_};
-ghost use Prim.Native.Nat.{_+_, _≤_};
+ghost use Prim.Native.Nat.{ℕ, _+_, _≤_};
+ghost use mathlib.Core.List.{List};
 ghost use mathlib.Core.Bool.{Bool};
 ghost use lib.ListN.{length, replicate};
 ghost use Rattle.slices.specs.Splice.{part};
@@ -32,13 +40,28 @@ ghost use Rattle.rules.specs.Gather.{time, stepEnd};
 ghost use Rattle.gather.specs.Run.{say, done};
 ghost use Rattle.gather.specs.Memory.{memOf, Roomy};
 ghost use Rattle.gather.specs.Follows.{Asks, Runs};
-ghost use Rattle.signals.specs.Parts.{withKinds, nextOf, valueOf, Fits, Given, writesOf, scanOf, passedOf, oneEntry, partOf, oneValue, toEnd, aStep, snapshotBody, isTailer, Begins, Passes};
+ghost use Rattle.signals.specs.Sections.Along.{isShort, shortOf, Took};
+ghost use Rattle.signals.specs.Sections.Along.Code.{Down, Stored, Takes, FollowAsks, Followed};
+ghost use Rattle.signals.specs.Sections.Along.Run.{isNear, AlongAsks, RunAsks, Moves};
+ghost use Rattle.signals.specs.Parts.{withKinds, nextOf, valueOf, Fits, Given, writesOf, timeAfter, markOf, stepsOf, scanOf, passedOf, oneEntry, partOf, oneValue, toEnd, aStep, snapshotBody, isTailer, Begins, Passes};
 
 // The next id of a change list and the place after its delta, or the list's end, or a refusal.
 pub enum NextId {
     Id(usize, usize),
     End(usize),
     Bad(u64, usize),
+}
+
+// A change of one byte of delta to a bit, by its value; or any other.
+enum Short {
+    Bit(u8),
+    Other,
+}
+
+// The last id written, and the place after its value.
+struct Reached {
+    id: usize,
+    at: usize,
 }
 
 // Where values stand: a value for each id, a change list, or one value that was read already, of a change record.
@@ -288,6 +311,230 @@ fn read_signal_value(
     }
 }
 
+fn wide(x: u8) -> usize
+    ensures { λ r. ⌜ r ≡ x ⌝ }
+{
+    x as usize
+}
+
+fn widen(x: u32) -> usize
+    ensures { λ r. ⌜ r ≡ x ⌝ }
+{
+    x as usize
+}
+
+// Whether a delta has one byte and leads to a bit above 0, of `left` bits that are left.
+fn short_delta(left: usize, d: u8) -> bool
+    ensures { λ r. ⌜ r ≡ isShort left d ⌝ }
+{
+    if d == 0 {
+        return false;
+    }
+    if 128 <= d {
+        return false;
+    }
+    wide(d) < left
+}
+
+fn short_value(kind: States, b: u8) -> Short
+    ensures { λ r. ⌜ r ≡ shortOf kind b ⌝ }
+{
+    match kind {
+        States::Two => { if b <= 1 { Short::Bit(b) } else { Short::Other } }
+        States::Nine => {
+            if b <= 8 {
+                Short::Bit(std_logic(b))
+            } else {
+                Short::Other
+            }
+        }
+    }
+}
+
+// Stores a bit that is not marked, `d` bits down from `left`. Answers `d`, or 0 where the bit is marked.
+fn store_down(room: &mut [u8], info: VecBufferInfo, left: usize, d: usize, value: u8) -> usize
+    requires { ⌜ Down (now room) info left d value ⌝ }
+    ensures { λ r. ⌜ Stored info left d value (now (room .entry)) (now (room .exit)) r ⌝ }
+{
+    if write_new(room, info, left - d, value) {
+        return d;
+    }
+    0
+}
+
+// The change at `at`, where it is a short one and makes no event. Answers its delta, or 0.
+fn take_change(
+    kind: States,
+    s: &[u8],
+    room: &mut [u8],
+    info: VecBufferInfo,
+    left: usize,
+    at: usize,
+) -> usize
+    requires { ⌜ Takes kind info (now s) left at (now room) ⌝ }
+    ensures { λ r. ⌜ Took info (now (s .entry)) left at (now (room .entry)) (now (room .exit)) r ⌝ }
+{
+    let d = s[at];
+    if !short_delta(left, d) {
+        return 0;
+    }
+    match short_value(kind, s[at + 1]) {
+        Short::Bit(value) => {
+            let x = VecBufferInfo {
+                start: info.start,
+                bytes: info.bytes,
+                width: info.width,
+                states: kind,
+            };
+            store_down(room, x, left, wide(d), value)
+        }
+        Short::Other => 0,
+    }
+}
+
+// Changes to one vector's bits, as long as they are short and make no event.
+fn follow(
+    kind: States,
+    s: &[u8],
+    room: &mut [u8],
+    info: VecBufferInfo,
+    max: usize,
+    from: usize,
+    at: usize,
+) -> Reached
+    requires { ⌜ FollowAsks kind info (now s) max from at (now room) ⌝ }
+    ensures { λ r. ⌜ Followed info max (now (s .entry)) (now (room .entry)) from at (now (room .exit)) r ⌝ }
+{
+    let mut id = from;
+    let mut i = at;
+    while 2 <= s.len() - i {
+        let d = take_change(kind, s, room, info, max - id, i);
+        if d == 0 {
+            return Reached { id, at: i };
+        }
+        id += d;
+        i += 2;
+    }
+    Reached { id, at: i }
+}
+
+// A loop for each state kind: the compiler makes two of this one.
+fn follow_kind(
+    s: &[u8],
+    room: &mut [u8],
+    info: VecBufferInfo,
+    max: usize,
+    from: usize,
+    at: usize,
+) -> Reached
+    requires { ⌜ FollowAsks (info .states) info (now s) max from at (now room) ⌝ }
+    ensures { λ r. ⌜ Followed info max (now (s .entry)) (now (room .entry)) from at (now (room .exit)) r ⌝ }
+{
+    let kind = info.states;
+    match kind {
+        States::Two => follow(States::Two, s, room, info, max, from, at),
+        States::Nine => follow(States::Nine, s, room, info, max, from, at),
+    }
+}
+
+// Whether the next change may lie before the last of `left` bits.
+fn near(s: &[u8], left: usize, at: usize) -> bool
+    ensures { λ r. ⌜ r ≡ isNear (now (s .entry)) left at ⌝ }
+{
+    if s.len() <= at {
+        return false;
+    }
+    wide(s[at]) < left
+}
+
+// Changes that follow one to id `id`, of vector `v`.
+fn along_quiet(
+    mins: &[u32],
+    maxs: &[u32],
+    states: &[u8],
+    s: &[u8],
+    room: &mut [u8],
+    list: &[u32],
+    v: usize,
+    id: usize,
+    at: usize,
+) -> Reached
+    requires { ⌜ AlongAsks (now mins) (now maxs) (now states) (now room) (now list) v id × (at ≤ length (now s)) ⌝ }
+    ensures { λ r. ⌜ ((vecs : List ℕ) → Moves Source.Listed vecs (now (mins .entry)) (now (maxs .entry)) (now (states .entry)) (now (s .entry)) (now (list .entry)) (now (room .entry)) (now (room .exit)) id at r) ⌝ }
+{
+    let info = info_of(mins, maxs, states, list, v);
+    let flags = flags_of(mins, maxs, states, list);
+    if !is_quiet(room, info, flags, v) {
+        return Reached { id, at };
+    }
+    follow_kind(s, room, info, widen(maxs[v]), id, at)
+}
+
+fn along_vector(
+    mins: &[u32],
+    maxs: &[u32],
+    states: &[u8],
+    s: &[u8],
+    room: &mut [u8],
+    list: &[u32],
+    v: usize,
+    id: usize,
+    at: usize,
+) -> Reached
+    requires { ⌜ AlongAsks (now mins) (now maxs) (now states) (now room) (now list) v id ⌝ }
+    ensures { λ r. ⌜ ((vecs : List ℕ) → Moves Source.Listed vecs (now (mins .entry)) (now (maxs .entry)) (now (states .entry)) (now (s .entry)) (now (list .entry)) (now (room .entry)) (now (room .exit)) id at r) ⌝ }
+{
+    let max = widen(maxs[v]);
+    if !near(s, max - id, at) {
+        return Reached { id, at };
+    }
+    along_quiet(mins, maxs, states, s, room, list, v, id, at)
+}
+
+fn read_along(
+    vecs: &[u32],
+    mins: &[u32],
+    maxs: &[u32],
+    states: &[u8],
+    s: &[u8],
+    room: &mut [u8],
+    list: &[u32],
+    id: usize,
+    at: usize,
+) -> Reached
+    requires { ⌜ RunAsks (now vecs) (now mins) (now maxs) (now states) (now room) (now list) id ⌝ }
+    ensures { λ r. ⌜ Moves Source.Listed (now (vecs .entry)) (now (mins .entry)) (now (maxs .entry)) (now (states .entry)) (now (s .entry)) (now (list .entry)) (now (room .entry)) (now (room .exit)) id at r ⌝ }
+{
+    let number = widen(vecs[id - 1]);
+    if number == 0 {
+        return Reached { id, at };
+    }
+    along_vector(mins, maxs, states, s, room, list, number - 1, id, at)
+}
+
+// Changes that follow one to the same vector and make no event: in a change list most of those to a vector do.
+fn read_run(
+    source: Source,
+    vecs: &[u32],
+    mins: &[u32],
+    maxs: &[u32],
+    states: &[u8],
+    s: &[u8],
+    room: &mut [u8],
+    list: &[u32],
+    id: usize,
+    at: usize,
+) -> Reached
+    requires { ⌜ RunAsks (now vecs) (now mins) (now maxs) (now states) (now room) (now list) id ⌝ }
+    ensures { λ r. ⌜ Moves source (now (vecs .entry)) (now (mins .entry)) (now (maxs .entry)) (now (states .entry)) (now (s .entry)) (now (list .entry)) (now (room .entry)) (now (room .exit)) id at r ⌝ }
+{
+    match source {
+        Source::Each => Reached { id, at },
+        Source::Listed => read_along(vecs, mins, maxs, states, s, room, list, id, at),
+        Source::One(_, _) => Reached { id, at },
+    }
+}
+
 // The values of a source: the one place where values are written, so that the compiler makes one loop of the reader and the gatherer.
 pub fn read_signal_values(
     source: Source,
@@ -334,8 +581,20 @@ pub fn read_signal_values(
                     next,
                 ) {
                     Part::Went(end, more) => {
-                        id = found;
-                        i = end;
+                        let run = read_run(
+                            source,
+                            vecs,
+                            mins,
+                            maxs,
+                            states,
+                            s,
+                            room,
+                            list,
+                            found,
+                            end,
+                        );
+                        id = run.id;
+                        i = run.at;
                         g = more;
                     }
                     Part::Out(n, p) => {
@@ -500,8 +759,31 @@ fn read_step(
     }
 }
 
-// The steps of a cycle, the first at the time `u`, and the end mark.
+// The time of the step after one: a snapshot has one step.
+fn time_after(source: Source, s: &[u8], u: u64, at: usize) -> NextTime
+    ensures { λ r. ⌜ r ≡ timeAfter source (now (s .entry)) u at ⌝ }
+{
+    match source {
+        Source::Each => NextTime::End(at),
+        Source::Listed => next_time(s, u, at),
+        Source::One(_, _) => NextTime::End(at),
+    }
+}
+
+// The end mark of a snapshot or of a cycle.
+fn check_end_of(source: Source, s: &[u8], at: usize, c: Gathered) -> Part
+    ensures { λ r. ⌜ Passes c r (endMark (markOf source) (now (s .entry)) at) ⌝ }
+{
+    match source {
+        Source::Each => check_end(s, at, &ESN, c),
+        Source::Listed => check_end(s, at, &ECY, c),
+        Source::One(_, _) => check_end(s, at, &ESN, c),
+    }
+}
+
+// The steps of a section, the first at the time `u`, and the end mark: one place for snapshots and cycles, so that the compiler takes `read_step` in.
 fn read_steps(
+    source: Source,
     kinds: &[u8],
     refs: &[u32],
     vecs: &[u32],
@@ -518,15 +800,15 @@ fn read_steps(
     u: u64,
     at: usize,
 ) -> Part
-    requires { ⌜ Asks (lists (now kinds) (now refs) (now vecs) (now mins) (now maxs) (now states) (now «vec_refs»)) (memOf (now room) (now list) (now events) (now values)) c ⌝ }
-    ensures { λ r. ⌜ ((flag : Bool) → Runs (lists (now (kinds .entry)) (now (refs .entry)) (now (vecs .entry)) (now (mins .entry)) (now (maxs .entry)) (now (states .entry)) (now («vec_refs» .entry))) (memOf (now (room .entry)) (now (list .entry)) (now (events .entry)) (now (values .entry))) (memOf (now (room .exit)) (now (list .exit)) (now (events .exit)) (now (values .exit))) c r (say (time u) at (steps (lists (now (kinds .entry)) (now (refs .entry)) (now (vecs .entry)) (now (mins .entry)) (now (maxs .entry)) (now (states .entry)) (now («vec_refs» .entry))) flag (now (s .entry)) (length (now (s .entry))) u at))) ⌝ }
+    requires { ⌜ Asks (lists (now kinds) (now refs) (now vecs) (now mins) (now maxs) (now states) (now «vec_refs»)) (memOf (now room) (now list) (now events) (now values)) c × Given source (lists (now kinds) (now refs) (now vecs) (now mins) (now maxs) (now states) (now «vec_refs»)) ⌝ }
+    ensures { λ r. ⌜ ((flag : Bool) → Runs (lists (now (kinds .entry)) (now (refs .entry)) (now (vecs .entry)) (now (mins .entry)) (now (maxs .entry)) (now (states .entry)) (now («vec_refs» .entry))) (memOf (now (room .entry)) (now (list .entry)) (now (events .entry)) (now (values .entry))) (memOf (now (room .exit)) (now (list .exit)) (now (events .exit)) (now (values .exit))) c r (stepsOf source (lists (now (kinds .entry)) (now (refs .entry)) (now (vecs .entry)) (now (mins .entry)) (now (maxs .entry)) (now (states .entry)) (now («vec_refs» .entry))) flag (now (s .entry)) (length (now (s .entry))) u at)) ⌝ }
 {
     let mut start_time = u;
     let mut i = at;
     let mut g = c;
     loop {
         match read_step(
-            Source::Listed,
+            source,
             kinds,
             refs,
             vecs,
@@ -543,14 +825,14 @@ fn read_steps(
             start_time,
             i,
         ) {
-            Part::Went(next, more) => match next_time(s, start_time, next) {
+            Part::Went(next, more) => match time_after(source, s, start_time, next) {
                 NextTime::Time(later, end) => {
                     start_time = later;
                     i = end;
                     g = more;
                 }
                 NextTime::End(end) => {
-                    return check_end(s, end, &ECY, more);
+                    return check_end_of(source, s, end, more);
                 }
                 NextTime::Bad(n, p) => {
                     return Part::Out(n, p);
@@ -587,6 +869,7 @@ fn read_cycle_section(
         Field::Next(next) => {
             let u = read_i64(big_endian, s, at);
             read_steps(
+                Source::Listed,
                 kinds,
                 refs,
                 vecs,
@@ -629,7 +912,7 @@ fn read_snapshot_body(
     requires { ⌜ Asks (lists (now kinds) (now refs) (now vecs) (now mins) (now maxs) (now states) (now «vec_refs»)) (memOf (now room) (now list) (now events) (now values)) c ⌝ }
     ensures { λ r. ⌜ Runs (lists (now (kinds .entry)) (now (refs .entry)) (now (vecs .entry)) (now (mins .entry)) (now (maxs .entry)) (now (states .entry)) (now («vec_refs» .entry))) (memOf (now (room .entry)) (now (list .entry)) (now (events .entry)) (now (values .entry))) (memOf (now (room .exit)) (now (list .exit)) (now (events .exit)) (now (values .exit))) c r (snapshotBody (lists (now (kinds .entry)) (now (refs .entry)) (now (vecs .entry)) (now (mins .entry)) (now (maxs .entry)) (now (states .entry)) (now («vec_refs» .entry))) (now (s .entry)) u at) ⌝ }
 {
-    match read_step(
+    read_steps(
         Source::Each,
         kinds,
         refs,
@@ -646,10 +929,7 @@ fn read_snapshot_body(
         c,
         u,
         at,
-    ) {
-        Part::Went(next, g) => check_end(s, next, &ESN, g),
-        Part::Out(n, p) => Part::Out(n, p),
-    }
+    )
 }
 
 fn read_snapshot_section(

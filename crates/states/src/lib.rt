@@ -1,7 +1,7 @@
 // The state kinds of a vector, the nine-state table, and values in packed bytes.
 ghost use mathlib.Core.Path.{_≡_};
 ghost use Prim.Native.Nat.{_+_, _-_, _*_, _≤_, _<_, _/_, _%_, _^_};
-ghost use lib.ListN.{length};
+ghost use lib.ListN.{length, getD, set};
 ghost use Rattle.states.specs.Kind.{bits, mask, perByte, bytesRequired, stateOf};
 ghost use Rattle.states.specs.Letters.{mapped};
 ghost use Rattle.states.specs.Field.{fieldGet, fieldSet};
@@ -145,10 +145,35 @@ pub fn get_value(packed: &[u8], states: States, at: usize, bytes: usize, bit: us
     get_at(packed, p, states.bits(), states.mask())
 }
 
+// One field of byte `i`.
+fn set_in(packed: &mut [u8], i: usize, shift: usize, width: u32, mask: u8, value: u8)
+    requires { ⌜ (i < length (now packed)) × (shift + width ≤ 8) × (0 < width) × (mask ≡ 2 ^ width - 1) × (value < 2 ^ width) ⌝ }
+    ensures { λ _. ⌜ now (packed .exit) ≡ set (now (packed .entry)) i (fieldSet width shift (getD (now (packed .entry)) i 0) value) ⌝ }
+{
+    packed[i] = set_field(packed[i], shift as u32, width, mask, value);
+}
+
+// By the kind, so that byte and shift come without a sum that is taken apart again.
 pub fn set_value(packed: &mut [u8], states: States, at: usize, bytes: usize, bit: usize, value: u8)
     requires { ⌜ (bit < perByte states * bytes) × (at + bytes ≤ length (now packed)) × (at + bytes ≤ 1073741823) × (value < 2 ^ bits states) ⌝ }
     ensures { λ _. ⌜ now (packed .exit) ≡ setAt (bits states) (valuePlace states at bytes bit) (now (packed .entry)) value ⌝ }
 {
-    let p = value_place(states, at, bytes, bit);
-    set_at(packed, p, states.bits(), states.mask(), value);
+    match states {
+        States::Two => set_in(
+            packed,
+            at + from_last(bytes, bit / 8),
+            bit % 8,
+            States::TWO_BITS,
+            States::TWO_MASK,
+            value,
+        ),
+        States::Nine => set_in(
+            packed,
+            at + from_last(bytes, bit / 2),
+            bit % 2 * 4,
+            States::NINE_BITS,
+            States::NINE_MASK,
+            value,
+        ),
+    }
 }

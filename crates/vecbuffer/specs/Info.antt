@@ -56,6 +56,14 @@ isSecond i b x room = isMarked i b room && not (eqb x (valueOf i b room))
 unfoldable pub hasMarks : VecBufferInfo → ℕ → List ℕ → Bool
 hasMarks f v room = eqb (valueOf f v room) 1
 
+-- vector v has marks and is listed, by the flags f, and bit 0 is not marked: a write to another bit that is not marked either makes no event and lists nothing
+unfoldable pub isQuiet : (i f : VecBufferInfo) → ℕ → List ℕ → Bool
+isQuiet i f v room = hasMarks f v room && (isMarked f v room && not (isMarked i 0 room))
+
+-- a bit stored and marked
+abbrev pub withBit : VecBufferInfo → (b x : ℕ) → List ℕ → List ℕ
+withBit i b x room = withMark i b 1 (withValue i b x room)
+
 -- all value bytes, and all mask bytes
 abbrev pub valuesOf : VecBufferInfo → List ℕ → List ℕ
 valuesOf i room = part room (i .start) (i .bytes)

@@ -5,13 +5,13 @@ use states::States;
 use states::get_at;
 use states::set_at;
 ghost use mathlib.Core.Path.{_≡_};
-ghost use mathlib.Core.Bool.{false};
+ghost use mathlib.Core.Bool.{false, not, cond};
 ghost use Prim.Native.Nat.{_+_, _-_, _<_, _≤_, _^_};
 ghost use lib.ListN.{length, getD};
 ghost use Rattle.slices.specs.Splice.{part};
 ghost use Rattle.states.specs.declared.States.the-variants.{Two};
 ghost use Rattle.states.specs.Kind.{bits, bytesRequired};
-ghost use Rattle.vecbuffer.specs.Info.{Inside, infoAt, valueOf, withValue, isMarked, withMark, isSecond, hasMarks, marksOf};
+ghost use Rattle.vecbuffer.specs.Info.{Inside, infoAt, valueOf, withValue, isMarked, withMark, isSecond, hasMarks, isQuiet, withBit, marksOf};
 ghost use Rattle.vecbuffer.specs.Numbers.{layoutFrom, Shapes, Started, startIn, listedIn, listing, filled};
 ghost use Rattle.vecbuffer.specs.Full.{allFull, fullIn};
 ghost use Rattle.vecbuffer.specs.Changes.{Lent, Marks, marked, Updates, updated, Takes, taken};
@@ -266,6 +266,34 @@ pub fn update_value(
     set_value(room, info, bit, value);
     mark_bit_changed(room, info, bit);
     mark_signal_changed(room, list, flags, v, count)
+}
+
+// Whether a write to a bit above 0 that is not marked makes no event and lists nothing.
+pub fn is_quiet(room: &[u8], info: VecBufferInfo, flags: VecBufferInfo, v: usize) -> bool
+    requires { ⌜ Inside (now room) info × (0 < info .width) × Inside (now room) flags × (v < flags .width) ⌝ }
+    ensures { λ r. ⌜ r ≡ isQuiet info flags v (now (room .entry)) ⌝ }
+{
+    if !has_signal_changed(room, flags, v) {
+        return false;
+    }
+    if !has_bit_changed(room, flags, v) {
+        return false;
+    }
+    !has_bit_changed(room, info, 0)
+}
+
+// Stores a bit and marks it where it is not marked, and says whether it was not.
+pub fn write_new(room: &mut [u8], info: VecBufferInfo, bit: usize, value: u8) -> bool
+    requires { ⌜ Inside (now room) info × (bit < info .width) × (value < 2 ^ bits (info .states)) ⌝ }
+    ensures told { λ r. ⌜ r ≡ not (isMarked info bit (now (room .entry))) ⌝ }
+    ensures bytes { λ _. ⌜ now (room .exit) ≡ cond (isMarked info bit (now (room .entry))) (now (room .entry)) (withBit info bit value (now (room .entry))) ⌝ }
+{
+    if !has_bit_changed(room, info, bit) {
+        set_value(room, info, bit, value);
+        mark_bit_changed(room, info, bit);
+        return true;
+    }
+    false
 }
 
 // Copies the value bytes of a vector out, and clears its marks.

@@ -155,6 +155,10 @@ module _ {t : Layout} {room nums : List ℕ} {k : ℕ} {g : State} (s : Stands t
   tidy₂ : Tidy (totalBytes t) room₂
   tidy₂ = tidy-mark (tidy-value (tidy h) (asks-vector s known) (ends-in t v (omega arith)) inside small) (after-value (asks-vector s known) i b x refl) (ends-in t v (omega arith)) inside (lit< tt)
 
+  -- a bit stored and marked, and nothing else
+  pub clean-stored : Clean t room₂ nums
+  clean-stored = clean-room h tidy₂
+
   flags₂ : Inside room₂ f
   flags₂ = after-mark (after-value (asks-flags s) i b x refl) i b 1 refl
 

@@ -3,7 +3,8 @@ use Rattle.tables.specs.Lists.{lists}
 use Rattle.gather.specs.Memory.{memOf}
 use lib.ListN.{length}
 use borrow.Author.Needs.{needs}
-use Rattle.signals.specs.Sections.Loops.{OnWrites, leftOf, writes-laws, writes-value, writes-less, writes-more}
+use Rattle.signals.specs.Sections.Loops.{OnWrites, leftOf, writes-laws, writes-value}
+use Rattle.signals.specs.Sections.Along.Run.{ask-run, run-less, run-more}
 use Rattle.signals.proofs.read_signal_values.Statement.{statement}
 use Rattle.signals.proofs.read_signal_values.Tie as tie
 
@@ -28,11 +29,14 @@ read-signal-value-requires c κs = writes-value (c .before .before .before .befo
 enum-known-end : tie.Need-enum-known-end Inv-loop μ-loop
 enum-known-end c = search (writes-laws, needs)
 
+read-run-requires : tie.Need-read-run-requires Inv-loop μ-loop
+read-run-requires c κs = ask-run (c .before .before .before .before .before .before .before .before .before .before .before .before .before .before .before .before .before .before .before .before .before .before .loop .inv) (c .before .before .before .before .before .before .before .before .before .before .before .before .before .before .before .before .before .before .before .before .before .next-of .ensures) (c .before .before .before .before .before .before .before .before .before .before .before .before .before .before .before .before .before .before .before .found .given .1) (c .before .before .before .before .before .before .before .before .before .before .before .before .before .read-signal-value .ensures) (c .before .before .before .end .given .1) (search (needs, c .before .before .before .before .before .before .before .before .before .before .before .before .before .read-signal-value .kept))
+
 loop-less : tie.Need-loop-less Inv-loop μ-loop
-loop-less c = writes-less (c .before .before .before .before .before .before .before .before .before .before .before .before .before .before .before .before .before .before .before .before .loop .inv) (c .before .before .before .before .before .before .before .before .before .before .before .before .before .before .before .before .before .before .before .next-of .ensures) (c .before .before .before .before .before .before .before .before .before .before .before .before .before .before .before .before .before .found .given .1) (c .before .before .before .before .before .before .before .before .before .before .before .read-signal-value .ensures) (c .before .end .given .1)
+loop-less c = run-less (c .before .before .before .before .before .before .before .before .before .before .before .before .before .before .before .before .before .before .before .before .before .before .before .before .before .loop .inv) (c .before .before .before .before .before .before .before .before .before .before .before .before .before .before .before .before .before .before .before .before .before .before .before .before .next-of .ensures) (c .before .before .before .before .before .before .before .before .before .before .before .before .before .before .before .before .before .before .before .before .before .before .found .given .1) (c .before .before .before .before .before .before .before .before .before .before .before .before .before .before .before .before .read-signal-value .ensures) (c .before .before .before .before .before .before .end .given .1) (search (needs, c .before .before .before .before .before .before .before .before .before .before .before .before .before .before .before .before .read-signal-value .kept)) (c .before .before .read-run .ensures)
 
 loop-again : tie.Need-loop-again Inv-loop μ-loop
-loop-again c = writes-more (c .before .before .before .before .before .before .before .before .before .before .before .before .before .before .before .before .before .before .before .before .loop .inv) (c .before .before .before .before .before .before .before .before .before .before .before .before .before .before .before .before .before .before .before .next-of .ensures) (c .before .before .before .before .before .before .before .before .before .before .before .before .before .before .before .before .before .found .given .1) (c .before .before .before .before .before .before .before .before .before .before .before .read-signal-value .ensures) (c .before .end .given .1) (search (needs, c .before .before .before .before .before .before .before .before .before .before .before .read-signal-value .kept))
+loop-again c = run-more (c .before .before .before .before .before .before .before .before .before .before .before .before .before .before .before .before .before .before .before .before .before .before .before .before .before .loop .inv) (c .before .before .before .before .before .before .before .before .before .before .before .before .before .before .before .before .before .before .before .before .before .before .before .before .next-of .ensures) (c .before .before .before .before .before .before .before .before .before .before .before .before .before .before .before .before .before .before .before .before .before .before .found .given .1) (c .before .before .before .before .before .before .before .before .before .before .before .before .before .before .before .before .read-signal-value .ensures) (c .before .before .before .before .before .before .end .given .1) (search (needs, c .before .before .before .before .before .before .before .before .before .before .before .before .before .before .before .before .read-signal-value .kept)) (c .before .before .read-run .ensures)
 
 enum-known-n : tie.Need-enum-known-n Inv-loop μ-loop
 enum-known-n c = search (writes-laws, needs)
@@ -99,6 +103,7 @@ read-signal-values-spec =
     enum-known-found
     read-signal-value-requires
     enum-known-end
+    read-run-requires
     loop-less
     loop-again
     enum-known-n

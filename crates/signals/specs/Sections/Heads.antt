@@ -18,15 +18,15 @@ use Rattle.tables.specs.Lists.{Lists, signals}
 use Rattle.rules.specs.Gather.{time}
 use Rattle.gather.specs.Memory.{Mem}
 use Rattle.gather.specs.Run.{Scan, say, done}
-use Rattle.gather.specs.Follows.{Asks, Runs, runs-fault, runs-then, runs-out}
+use Rattle.gather.specs.Follows.{Asks, Runs, runs-fault}
 use Rattle.gather.specs.declared.Gathered.{Gathered}
 use Rattle.gather.specs.declared.Part.{Part}
-use Rattle.gather.specs.declared.Part.the-variants.{Went, Out}
+use Rattle.gather.specs.declared.Part.the-variants.{Out}
 use Rattle.signals.specs.Sections.{field, endMark, eachValue, steps, snapshot, cycle}
 use Rattle.signals.specs.Sections.Places.{field-is, field-no}
 use Rattle.signals.specs.Sections.Steps.{step-then}
-use Rattle.signals.specs.Parts.{scanOf, aStep, snapshotBody, Passes, Given}
-use Rattle.signals.specs.declared.Source.the-variants.{Each}
+use Rattle.signals.specs.Parts.{scanOf, snapshotBody, stepsOf, Given}
+use Rattle.signals.specs.declared.Source.the-variants.{Each, Listed}
 use Rattle.signals.specs.declared.Place.the-variants.{At, Bad}
 
 -- what is equal to a scan is followed as it is
@@ -49,23 +49,21 @@ module _ (t : Lists) (flag : Bool) (s : List ℕ) (i : ℕ) {f : Field} (e : f �
     unfolding cycle
     cycle-is u q h = runs-as (field-is 8 s i _ e d ∙ ap (λ u. say (time u) j (steps t flag s (length s) u j)) (sym q)) (h flag)
 
-pub ruleset cycle-laws = (cycle-short, cycle-within, cycle-is)
+pub cycle-asks : {t : Lists} {m : Mem} {c : Gathered} → Asks t m c → Asks t m c × Given Listed t
+cycle-asks a = (a, record { given = tt })
+
+pub ruleset cycle-laws = (cycle-asks, cycle-short, cycle-within, cycle-is)
 
 -- ---- the snapshot
 
-module _ (t : Lists) (s : List ℕ) (u i : ℕ) {m m' : Mem} {c : Gathered} {x : Part} (f : Runs t m m' c x (aStep u i (eachValue t s (signals t) 1))) where
-  pub body-out : {n p : ℕ} → x ≡ Out n p → Runs t m m' c (Out n p) (snapshotBody t s u i)
-  unfolding snapshotBody
-  body-out e = runs-out (rw e at f) _
-
-  pub body-end : {j : ℕ} {c₁ : Gathered} → x ≡ Went j c₁ → {y : Part} → Passes c₁ y (endMark esn s j) → Runs t m m' c y (snapshotBody t s u i)
-  unfolding snapshotBody
-  body-end e y = runs-then (rw e at f) (λ j. endMark esn s j) (y .passes t m')
+pub body-is : (t : Lists) (s : List ℕ) (n u i : ℕ) {m m' : Mem} {c : Gathered} {x : Part} → ((flag : Bool) → Runs t m m' c x (stepsOf Each t flag s n u i)) → Runs t m m' c x (snapshotBody t s u i)
+unfolding snapshotBody
+body-is t s n u i f = f true
 
 pub body-asks : {t : Lists} {m : Mem} {c : Gathered} → Asks t m c → Asks t m c × Given Each t
 body-asks a = (a, record { given = tt })
 
-pub ruleset body-laws = (body-asks, body-out, body-end)
+pub ruleset body-laws = (body-asks, body-is)
 
 module _ (t : Lists) (flag : Bool) (s : List ℕ) (i : ℕ) {f : Field} (e : f ≡ fieldOf 12 s i) where
   pub snapshot-short : {m : Mem} {c : Gathered} → f ≡ Short → Runs t m m c (Out 7 i) (snapshot t flag s i)

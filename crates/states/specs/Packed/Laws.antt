@@ -1,6 +1,6 @@
 -- Laws of packed values.
 -- Assumes nothing.
-use mathlib.Core.Path.{_≡_, refl, _∙_}
+use mathlib.Core.Path.{_≡_, refl, ap, _∙_}
 use Prim.Native.Nat.{ℕ, zero, suc, _+_, _-_, _*_, _/_, _%_, _^_, _<_, _≤_}
 use mathlib.Core.Bool.{Bool, true, false, cond}
 use mathlib.Core.List.{List, [], _∷_}
@@ -156,26 +156,53 @@ module _ (s : States) (at n b p width : ℕ) (place : p ≡ valuePlace s at n b)
   pub place-inside : (len : ℕ) → b < perByte s * n → at + n ≤ len → p / 8 < len
   place-inside len h o = omega (arith, value-in s at n b h, bits-some s)
 
-  pub place-byte : p % 8 + width ≤ 8
-  place-byte = rw (place, wide) (value-byte s at n b)
-
-  pub place-some : 0 < width
-  place-some = rw wide (bits-some s)
-
   pub place-mask : (m : ℕ) → m ≡ mask s → m ≡ 2 ^ width - 1
   place-mask m e = rw (e, wide) (mask-is s)
-
-  pub place-small : (x : ℕ) → x < 2 ^ bits s → x < 2 ^ width
-  place-small x h = rw wide h
 
   pub place-get : (l : List ℕ) (r : ℕ) → r ≡ fieldAt width p l → r ≡ fieldAt (bits s) (valuePlace s at n b) l
   place-get l r e = e ∙ rw (place, wide)
 
-  pub place-set : (l l' : List ℕ) (x : ℕ) → l' ≡ setAt width p l x → l' ≡ setAt (bits s) (valuePlace s at n b) l x
-  place-set l l' x e = e ∙ rw (place, wide)
+-- a value set in its byte
+module _ (s : States) (at n b k : ℕ) (l : List ℕ) (x : ℕ) where
+  pub set-two : {l' : List ℕ} → s ≡ Two → k ≡ n - 1 - b / 8 → l' ≡ set l (at + k) (fieldSet 1 (b % 8) (getD l (at + k) 0) x) → l' ≡ setAt (bits s) (valuePlace s at n b) l x
+  unfolding setAt valuePlace
+  set-two z e d =
+      let p : (8 * (at + k) + b % 8 * 1) / 8 ≡ at + k = omega arith in
+      let q : (8 * (at + k) + b % 8 * 1) % 8 ≡ b % 8 = omega arith in
+      d ∙ rw (z, ← e, p, q)
+
+  pub set-nine : {l' : List ℕ} → s ≡ Nine → k ≡ n - 1 - b / 2 → l' ≡ set l (at + k) (fieldSet 4 (b % 2 * 4) (getD l (at + k) 0) x) → l' ≡ setAt (bits s) (valuePlace s at n b) l x
+  unfolding setAt valuePlace
+  set-nine z e d =
+      let p : (8 * (at + k) + b % 2 * 4) / 8 ≡ at + k = omega arith in
+      let q : (8 * (at + k) + b % 2 * 4) % 8 ≡ b % 2 * 4 = omega arith in
+      d ∙ rw (z, ← e, p, q)
+
+  pub two-inside : s ≡ Two → k ≡ n - 1 - b / 8 → b < perByte s * n → at + n ≤ length l → at + k < length l
+  two-inside z e h o = let g : b < 8 * n = rw z at h in omega (arith, g)
+
+  pub nine-inside : s ≡ Nine → k ≡ n - 1 - b / 2 → b < perByte s * n → at + n ≤ length l → at + k < length l
+  nine-inside z e h o = let g : b < 2 * n = rw z at h in omega (arith, g)
+
+pub two-small : (s : States) (x : ℕ) → s ≡ Two → x < 2 ^ bits s → x < 2 ^ 1
+two-small s x z u = rw z at u
+
+pub nine-small : (s : States) (x : ℕ) → s ≡ Nine → x < 2 ^ bits s → x < 2 ^ 4
+nine-small s x z u = rw z at u
+
+pub two-shift : (b : ℕ) → b % 8 + 1 ≤ 8
+two-shift b = omega arith
+
+pub nine-shift : (b : ℕ) → b % 2 * 4 + 4 ≤ 8
+nine-shift b = omega arith
+
+pub set-byte : (width shift i : ℕ) (l : List ℕ) (x r : ℕ) → r ≡ fieldSet width shift (getD l i 0) x → set l i r ≡ set l i (fieldSet width shift (getD l i 0) x)
+set-byte width shift i l x r e = ap (set l i) e
+
+pub ruleset set-laws = (top-two, top-nine, set-two, set-nine, two-inside, nine-inside, two-small, nine-small, two-shift, nine-shift, set-byte)
 
 pub ruleset kind-laws = (bytes-two, bytes-nine, state-nine, state-two, top-two, place-two, top-nine, place-nine)
 
 pub ruleset field-laws = (got-field, set-field)
 
-pub ruleset place-laws = (place-inside, place-byte, place-some, place-mask, place-small, place-get, place-set)
+pub ruleset place-laws = (place-inside, place-mask, place-get)

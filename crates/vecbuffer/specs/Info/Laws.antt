@@ -1,10 +1,11 @@
 -- What the code of one vector's fields asks, and says.
 -- Assumes nothing.
-use mathlib.Core.Path.{_≡_}
+use mathlib.Core.Path.{_≡_, refl, _∙_}
 use Prim.Native.Nat.{ℕ, _+_, _*_, _/_, _<_, _≤_}
-use mathlib.Core.Bool.{Bool, true, false, not}
+use mathlib.Core.Bool.{Bool, true, false, not, cond}
 use mathlib.Core.List.{List}
 use native.Mathlib.Omega.{arith}
+use borrow.Author.Tests.{not-true, not-false}
 use lib.Dec.{eqb}
 use lib.ListN.{length}
 use mir.Val.{Fits}
@@ -14,7 +15,7 @@ use Rattle.states.specs.Kind.{bits, perByte}
 use Rattle.states.specs.Packed.{fieldAt, setAt, valuePlace}
 use Rattle.states.specs.Packed.Laws.{bit-fits}
 use Rattle.vecbuffer.specs.declared.VecBufferInfo.{VecBufferInfo}
-use Rattle.vecbuffer.specs.Info.{valueOf, withValue, markPlace, markOf, withMark, isMarked, isSecond, hasMarks, Inside}
+use Rattle.vecbuffer.specs.Info.{valueOf, withValue, markPlace, markOf, withMark, isMarked, isSecond, hasMarks, isQuiet, withBit, Inside}
 
 -- what the code of a field asks
 module _ {room : List ℕ} {i : VecBufferInfo} (h : Inside room i) where
@@ -70,6 +71,39 @@ module _ (room : List ℕ) (i : VecBufferInfo) (b : ℕ) where
     unfolding isSecond
     says-second z d = rw (← e, z, d)
 
+-- ---- writes that make no event
+
+module _ (room : List ℕ) (i f : VecBufferInfo) (v : ℕ) {m : Bool} (p : m ≡ hasMarks f v room) where
+  pub says-unwritten : not m ≡ true → false ≡ isQuiet i f v room
+  unfolding isQuiet
+  says-unwritten z = rw (← p, not-true m z)
+
+  module _ (y : not m ≡ false) {n : Bool} (q : n ≡ isMarked f v room) where
+    pub says-unlisted : not n ≡ true → false ≡ isQuiet i f v room
+    unfolding isQuiet
+    says-unlisted z = rw (← p, not-false m y, ← q, not-true n z)
+
+    pub says-quiet : not n ≡ false → {k : Bool} → k ≡ isMarked i 0 room → not k ≡ isQuiet i f v room
+    unfolding isQuiet
+    says-quiet z d = rw (← p, not-false m y, ← q, not-false n z, d)
+
+module _ (room : List ℕ) (i : VecBufferInfo) (b : ℕ) {m : Bool} (e : m ≡ isMarked i b room) where
+  pub says-old : not m ≡ false → false ≡ not (isMarked i b room)
+  says-old z = rw (← e, not-false m z)
+
+  pub says-fresh : not m ≡ true → true ≡ not (isMarked i b room)
+  says-fresh z = rw (← e, not-true m z)
+
+  pub says-kept : (x : ℕ) → not m ≡ false → room ≡ cond (isMarked i b room) room (withBit i b x room)
+  says-kept x z = rw (← e, not-false m z)
+
+  pub says-written : (x : ℕ) → not m ≡ true → {r₁ r₂ : List ℕ} → r₁ ≡ withValue i b x room → r₂ ≡ withMark i b 1 r₁ → r₂ ≡ cond (isMarked i b room) room (withBit i b x room)
+  says-written x z p q = rw (← e, not-true m z) (q ∙ rw p)
+
 -- ---- what the proofs of the functions search
+
+pub ruleset quiet-laws = (says-unwritten, says-unlisted, says-quiet)
+
+pub ruleset new-laws = (says-old, says-fresh, says-kept, says-written)
 
 pub ruleset field-laws = (ask-room, ask-low, ask-value, ask-mark, fits-sum, fits-times, fits-place, says-value, says-has, says-stored, says-mark, says-marked, says-first, says-second)

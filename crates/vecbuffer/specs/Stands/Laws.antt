@@ -2,11 +2,11 @@
 -- Assumes nothing.
 use mathlib.Core.Path.{_≡_, refl, sym, ap, _∙_, subst}
 use Prim.Native.Nat.{ℕ, _+_, _*_, _/_, _%_, _^_, _<_, _≤_}
-use mathlib.Core.Bool.{Bool, true, false, cond, _&&_, _||_}
+use mathlib.Core.Bool.{Bool, true, false, not, cond, _&&_, _||_, true≢false}
 use mathlib.Core.List.{List, _∷_}
 use native.Mathlib.Nat.{add-zero}
 use native.Mathlib.Omega.{arith}
-use borrow.Author.Tests.{eqb-true}
+use borrow.Author.Tests.{eqb-true, eq-eqb, ne-eqb}
 use lib.Dec.{eqb, lit<}
 use lib.ListN.{length, getD}
 use Rattle.slices.specs.Choice.{cond-ind}
@@ -21,7 +21,7 @@ use Rattle.rules.specs.Vector.{Write, Vec, all, any, stored, clashes, actsEarly
 use Rattle.rules.specs.Gather.{State, with, elem, list}
 use Rattle.tables.specs.Layout.{Layout, valueBytes}
 use Rattle.vecbuffer.specs.declared.VecBufferInfo.{VecBufferInfo}
-use Rattle.vecbuffer.specs.Info.{num, infoAt, valueOf, withValue, markOf, withMark, isMarked, isSecond, hasMarks, valuesOf, marksOf, withoutMarks, Inside}
+use Rattle.vecbuffer.specs.Info.{num, infoAt, valueOf, withValue, markOf, withMark, isMarked, isSecond, hasMarks, isQuiet, valuesOf, marksOf, withoutMarks, Inside}
 use Rattle.vecbuffer.specs.Numbers.{listedIn, listing}
 use Rattle.vecbuffer.specs.Full.{fullIn}
 use Rattle.vecbuffer.specs.Full.Marks.{full-marks}
@@ -115,6 +115,16 @@ module _ {t : Layout} {room nums : List ℕ} {i k : ℕ} {g : State} (s : Stands
 
 -- ---- rule (b)
 
+all-three : (a b c : Bool) → (a && (b && not c)) ≡ true → (a ≡ true) × (b ≡ true) × (c ≡ false)
+all-three true true false e = (refl, refl, refl)
+all-three true true true e = absurd (true≢false (sym e))
+all-three true false c e = absurd (true≢false (sym e))
+all-three false b c e = absurd (true≢false (sym e))
+
+unmarked : (m : Bool) → num m ≡ 0 → m ≡ false
+unmarked true e = absurd (omega arith)
+unmarked false e = refl
+
 module _ {t : Layout} {room nums : List ℕ} {k : ℕ} {g : State} (s : Stands t room nums 0 k g) {v : ℕ} (known : v < t .count) where
   pub asks-marks : Marks room nums (flagsAt t) v k
   asks-marks =
@@ -190,6 +200,23 @@ module _ {t : Layout} {room nums : List ℕ} {k : ℕ} {g : State} (s : Stands t
         marks-wide = marks-long;
       })
 
+  -- and has marks: then the flags stay as they are
+  keeps : elem v (g .listed) ≡ true → any (g .vecs v .marks) ≡ true → Stands t room₂ nums 0 k (storing g v x)
+  unfolding storing list
+  keeps e h =
+      rw e
+      (record {
+        laid = s .laid;
+        holds = holds-stored (cells-as bit-stored (λ w b o. refl) (λ w b o. refl) (λ w o. same w (eqb w v) refl) (λ w o. refl)) (λ w o. refl);
+        listed = s .listed;
+        vals-wide = vals-long;
+        marks-wide = marks-long;
+      })
+    where
+      same : (w : ℕ) (m : Bool) → eqb w v ≡ m → num (any (g .vecs w .marks)) ≡ cond m 1 (num (any (g .vecs w .marks)))
+      same w true d = rw (eqb-true w v d, h)
+      same w false d = refl
+
   module _ (new : elem v (g .listed) ≡ false) where
     -- or it is now
     added : Stands t (withValue f v 1 (withMark f v 1 room₂)) (listing nums k v) 0 (k + 1) (storing g v x)
@@ -213,6 +240,36 @@ module _ {t : Layout} {room nums : List ℕ} {k : ℕ} {g : State} (s : Stands t
 
   pub stands-update : {room' nums' : List ℕ} {k' : ℕ} → mk room' nums' k' ≡ updated i f v k (x .bit) (x .value) room nums → Stands t room' nums' 0 k' (storing g v x)
   stands-update e = subst (StandsIn t (storing g v x)) (sym e) stands-updated
+
+  -- a write that makes no event and lists nothing
+  module _ (quiet : isQuiet i f v room ≡ true) where
+    facts : (hasMarks f v room ≡ true) × (isMarked f v room ≡ true) × (isMarked i 0 room ≡ false)
+    unfolding isQuiet
+    facts = all-three (hasMarks f v room) (isMarked f v room) (isMarked i 0 room) quiet
+
+    pub stands-quiet : Stands t room₂ nums 0 k (storing g v x)
+    stands-quiet = keeps (sym (marked-is s known) ∙ facts .1) (sym (has-is s known) ∙ facts .0)
+
+    module _ (some : 0 < x .bit) where
+      -- the next one is so too
+      pub stays-quiet : isQuiet i f v room₂ ≡ true
+      unfolding isQuiet hasMarks isMarked
+      stays-quiet =
+          let a : valueOf f v room₂ ≡ valueOf f v room = bit-stored .having v known ∙ sym (s .holds .having v known) in
+          let b : markOf f v room₂ ≡ markOf f v room = bit-stored .seeing v known ∙ sym (s .holds .seeing v known) in
+          let z : 0 ≡ x .bit → ⊥ = λ e. omega arith in
+          let d : markOf i 0 room₂ ≡ markOf i 0 room =
+          bit-stored .marks v 0 known (has-mark (omega arith)) ∙ rw (eq-eqb v v refl, ne-eqb 0 (x .bit) z) (sym (s .holds .marks v 0 known (has-mark (omega arith)))) in
+          rw (a, b, d) quiet
+
+      -- bit 0 is not marked afterwards either
+      pub quiet-bit : getD (stored (g .vecs v) x .marks) 0 false ≡ false
+      unfolding isMarked
+      quiet-bit =
+          let z : 0 ≡ x .bit → ⊥ = λ e. omega arith in
+          let d : eqb (markOf i 0 room) 1 ≡ false = facts .2 in
+          let e : getD (g .vecs v .marks) 0 false ≡ false = sym (num-one (getD (g .vecs v .marks) 0 false)) ∙ (rw (s .holds .marks v 0 known (has-mark (omega arith))) at d) in
+          unmarked (getD (stored (g .vecs v) x .marks) 0 false) (sym (stored-mark (g .vecs v) x marks-in 0) ∙ rw (ne-eqb 0 (x .bit) z, e))
 
 -- ---- an event of a vector, and a step's end
 
