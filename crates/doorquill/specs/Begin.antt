@@ -30,8 +30,9 @@ use Rattle.gather.specs.Writes.{shapes-of}
 use Rattle.gather.specs.Begin.{tabled, nothing, roomsOf, numbersOf, begins, written-events, written-values, written-steps}
 use Rattle.gather.specs.declared.Part.{Part}
 use Rattle.gather.specs.declared.Part.the-variants as part
-use Rattle.doorquill.specs.Entries.{Outcome, refused, outcome, checked, reads, Left, Lent, leaves, readSections, readChanges}
-use Rattle.doorquill.specs.Reading.{lentOf, Used, endedAt, Within, Finish, Ended}
+use Rattle.answers.specs.Outcome.{Outcome, refused, Left, Lent, leaves}
+use Rattle.doorquill.specs.Entries.{outcome, checked, reads, readSections, readChanges}
+use Rattle.answers.specs.Reading.{lentOf, Used, endedAt, Within, Finish, Ended}
 
 -- ---- zeros, and a part of them lent
 

@@ -30,9 +30,10 @@ use Rattle.changes.specs.Changes.{scanChanges}
 use Rattle.encoder.specs.Rule.Keeping.{records, unset, keptOf, bytesOf}
 use Rattle.encoder.specs.Rule.Keeping.Laws.{kept-part}
 use Rattle.encoder.specs.Rule.Keeping as keeping
-use Rattle.doorquill.specs.declared.Answer.{Answer}
-use Rattle.doorquill.specs.Entries.{Outcome, answer, eventBytes, valueBytes, padded, Left, Lent, LeftKept, leaves, leavesKept, reads, readSections, readChanges, applyTimeRule}
-use Rattle.doorquill.specs.Entries.Laws.{Allowed, padded-length, padded-front, padded-past, padded-nothing, answer-events, answer-values, refusal-rest, refusal-events, refusal-values, acceptance-place, allowed-number, allowed-read, allowed-events, allowed-values}
+use Rattle.answers.specs.declared.Answer.{Answer}
+use Rattle.answers.specs.Outcome.{Outcome, answer, eventBytes, valueBytes, padded, Left, Lent, LeftKept, leaves, leavesKept}
+use Rattle.doorquill.specs.Entries.{reads, readSections, readChanges, applyTimeRule}
+use Rattle.answers.specs.Outcome.Laws.{Allowed, padded-length, padded-front, padded-past, padded-nothing, answer-events, answer-values, refusal-rest, refusal-events, refusal-values, acceptance-place, allowed-number, allowed-read, allowed-events, allowed-values}
 use Rattle.doorquill.specs.Entries.Scanned.{Scanned, sections-scanned, changes-scanned}
 use Rattle.doorquill.specs.Entries.Reads as reading
 use Rattle.doorquill.specs.Entries.Reads.{checksOf, roomsOf, eventsFrom}

@@ -10,7 +10,8 @@ use Rattle.tables.specs.Checks.{unless, andThen, withinLimit, check1, check2}
 use Rattle.tables.specs.declared.Check.{Check}
 use Rattle.tables.specs.declared.Check.the-variants.{Passed, Refused}
 use Rattle.doorquill.specs.declared.Vector.{Vector}
-use Rattle.doorquill.specs.Entries.{refused, Left, Lent, leaves, readSections}
+use Rattle.answers.specs.Outcome.{refused, Left, Lent, leaves}
+use Rattle.doorquill.specs.Entries.{readSections}
 pub mod Flat
 pub mod Laws
 pub mod Entry

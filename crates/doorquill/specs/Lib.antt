@@ -3,7 +3,6 @@ pub mod Rows
 pub mod Kept
 pub mod Unique
 pub mod Demands
-pub mod Reading
 pub mod Begin
 pub mod Lent
 pub mod Written

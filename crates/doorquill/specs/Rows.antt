@@ -7,8 +7,9 @@ use mathlib.Core.List.{List, [], _∷_}
 use lib.ListN.{length, take, replicate}
 use Rattle.numbers.specs.Fixed.{bigBytes}
 use Rattle.tables.specs.Lists.{Lists}
-use Rattle.doorquill.specs.declared.Answer.{Answer}
-use Rattle.doorquill.specs.Entries.{Left, Lent, LeftKept, readSections, readChanges, applyTimeRule}
+use Rattle.answers.specs.declared.Answer.{Answer}
+use Rattle.answers.specs.Outcome.{Left, Lent, LeftKept}
+use Rattle.doorquill.specs.Entries.{readSections, readChanges, applyTimeRule}
 pub mod Opened
 pub mod Worked
 pub mod Readings

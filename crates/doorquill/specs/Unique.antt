@@ -5,7 +5,8 @@ use mathlib.Core.Path.{_≡_, sym, _∙_}
 use mathlib.Core.Bool.{Bool}
 use mathlib.Core.List.{List}
 use Rattle.tables.specs.Lists.{Lists}
-use Rattle.doorquill.specs.Entries.{Left, Lent, LeftKept, readSections, readChanges, applyTimeRule}
+use Rattle.answers.specs.Outcome.{Left, Lent, LeftKept}
+use Rattle.doorquill.specs.Entries.{readSections, readChanges, applyTimeRule}
 
 -- "Prove that two outcomes satisfying it are equal"
 pub sections-unique : (t : Lists) (flag : Bool) (s : List ℕ) (l : Lent) (a b : Left) → a ≡ readSections t flag s l → b ≡ readSections t flag s l → a ≡ b

@@ -10,7 +10,8 @@ use Rattle.tables.specs.Lists.{Lists}
 use Rattle.sections_writer.specs.Checked.{checksWithoutRoom}
 use Rattle.sections_writer.specs.Writer as writer
 use Rattle.read_back.specs.ReadBack as back
-use Rattle.doorquill.specs.Entries.{Outcome, accepted, refused, LeftKept, leavesKept, checked}
+use Rattle.answers.specs.Outcome.{Outcome, accepted, refused, LeftKept, leavesKept}
+use Rattle.doorquill.specs.Entries.{checked}
 pub mod Laws
 pub mod Unique
 pub mod Rows

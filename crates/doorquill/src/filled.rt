@@ -1,8 +1,8 @@
 // The two calls that are lent one output and no working room, over tables that passed their checks.
-use crate::Answer;
-use crate::ends::widen;
-use crate::kept::accept_kept;
-use crate::kept::refuse_kept;
+use answers::Answer;
+use answers::ends::widen;
+use answers::kept::accept_kept;
+use answers::kept::refuse_kept;
 use read_back::read_back;
 use sections_writer::write_sections;
 use written::Written;
@@ -12,7 +12,7 @@ ghost use Rattle.signals.specs.Parts.{withKinds};
 ghost use Rattle.changes.specs.Changes.Record.{ofKinds};
 ghost use Rattle.sections_writer.specs.Writer.{writeSections};
 ghost use Rattle.read_back.specs.ReadBack.{readBack};
-ghost use Rattle.doorquill.specs.Entries.{LeftKept, leavesKept};
+ghost use Rattle.answers.specs.Outcome.{LeftKept, leavesKept};
 ghost use Rattle.doorquill.specs.Written.{filled};
 
 // Of the tables the kinds alone are asked.

@@ -1,8 +1,8 @@
 // Section reading over lent vector records: they are made flat, and the core reads the flat table.
-use crate::Answer;
 use crate::Vector;
 use crate::doorquill_read_sections;
-use crate::ends::refuse;
+use answers::Answer;
+use answers::ends::refuse;
 use slices::clear_numbers;
 use tables::Check;
 use tables::check_limits;
@@ -14,7 +14,7 @@ ghost use lib.ListN.{length, replicate};
 ghost use Rattle.slices.specs.Splice.{splice, part};
 ghost use Rattle.tables.specs.Lists.{lists};
 ghost use Rattle.doorquill.specs.Entries.{readSections};
-ghost use Rattle.doorquill.specs.Reading.{leftOf, lentOf};
+ghost use Rattle.answers.specs.Reading.{leftOf, lentOf};
 ghost use Rattle.doorquill.specs.Lent.Flat.{roomFor, Unpacked, lows, flatTable, checkFlat, checksFlat, readPassed, refusedLent, readFlat, leftLent};
 
 // How many of `v` records are made flat: none where there are too many, or where `flat` has no room for them.

@@ -1,17 +1,18 @@
 // The public entries.
-mod ends;
 mod filled;
-mod kept;
 mod lent;
 mod passed;
 
+use answers::Answer;
+use answers::ends::refuse;
+use answers::ends::widen;
+use answers::kept::accept_kept;
+use answers::kept::refuse_kept;
+use answers::kept::within_limits;
+use encoder::Applied;
 use encoder::apply;
-use ends::refuse;
 use filled::records_back;
 use filled::sections_written;
-use kept::end_kept;
-use kept::refuse_kept;
-use kept::within_limits;
 use lent::read_flat;
 use lent::room_for;
 use lent::unpack;
@@ -23,22 +24,13 @@ use tables::checks;
 ghost use mathlib.Core.Path.{_≡_};
 ghost use lib.ListN.{length};
 ghost use Rattle.tables.specs.Lists.{lists};
-ghost use Rattle.doorquill.specs.Entries.{readSections, readChanges, LeftKept, applyTimeRule};
-ghost use Rattle.doorquill.specs.Reading.{leftOf, lentOf};
+ghost use Rattle.answers.specs.Outcome.{LeftKept, leavesKept};
+ghost use Rattle.doorquill.specs.Entries.{readSections, readChanges, applyTimeRule};
+ghost use Rattle.answers.specs.Reading.{leftOf, lentOf};
+ghost use Rattle.doorquill.specs.Kept.{Held, ended};
 ghost use Rattle.doorquill.specs.Lent.Flat.{leftLent};
 ghost use Rattle.doorquill.specs.Lent.{readSectionsLent};
 ghost use Rattle.doorquill.specs.Written.{writeSections, readBack};
-
-// Document 01's six numbers.
-#[repr(C)]
-pub struct Answer {
-    pub number: u64,
-    pub place: u64,
-    pub read: u64,
-    pub events: u64,
-    pub values: u64,
-    pub steps: u64,
-}
 
 // A vector's record, as a host lends it.
 #[repr(C)]
@@ -182,6 +174,21 @@ pub extern "C" fn doorquill_read_changes(
             list,
         ),
         Check::Refused(number, place) => refuse(events, values, room, list, number, place),
+    }
+}
+
+// The end of the time rule.
+fn end_kept(kept: &mut [u8], a: Applied) -> Answer
+    requires { ⌜ Held (now kept) a ⌝ }
+    ensures { λ r. ⌜ _≡_ {A = LeftKept} (record { answer = r; kept = now (kept .exit) }) (leavesKept (length (now (kept .entry))) (ended (now (kept .entry)) a)) ⌝ }
+{
+    match a {
+        Applied::Done {
+            read,
+            kept: n,
+            steps,
+        } => accept_kept(kept, read, n, steps),
+        Applied::Refused(number, place) => refuse_kept(kept, number, widen(place)),
     }
 }
 

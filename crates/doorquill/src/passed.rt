@@ -1,7 +1,7 @@
 // The two readings, over tables that passed their checks.
-use crate::Answer;
-use crate::ends::finish;
-use crate::ends::start;
+use answers::Answer;
+use answers::ends::finish;
+use answers::ends::start;
 use changes::read_changes;
 use gather::Gathered;
 use gather::Part;
@@ -18,8 +18,9 @@ ghost use Rattle.gather.specs.Run.{runAll};
 ghost use Rattle.gather.specs.Begin.{roomsOf};
 ghost use Rattle.signals.specs.Sections.{scanSections};
 ghost use Rattle.changes.specs.Changes.{scanChanges};
-ghost use Rattle.doorquill.specs.Entries.{leaves, outcome};
-ghost use Rattle.doorquill.specs.Reading.{leftOf, lentOf, Ended};
+ghost use Rattle.answers.specs.Outcome.{leaves};
+ghost use Rattle.doorquill.specs.Entries.{outcome};
+ghost use Rattle.answers.specs.Reading.{leftOf, lentOf, Ended};
 
 // The acts of all sections, over tables that passed their checks.
 fn sections_part(

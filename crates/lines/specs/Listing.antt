@@ -6,8 +6,9 @@ use mathlib.Core.List.{List, _++_}
 use lib.ListN.{length, take, drop}
 use lib.Dec.{leb, eqb}
 use Rattle.tables.specs.Lists.{Lists}
-use Rattle.doorquill.specs.declared.Answer.{Answer}
-use Rattle.doorquill.specs.Entries.{Lent, readSections}
+use Rattle.answers.specs.declared.Answer.{Answer}
+use Rattle.answers.specs.Outcome.{Lent}
+use Rattle.doorquill.specs.Entries.{readSections}
 use Rattle.lines.specs.Lines.{doneWord, refusedWord, pairLine, eventLines}
 use Rattle.lines.specs.Preamble.{Opening, opens, refused, preamble}
 pub mod Code

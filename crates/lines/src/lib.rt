@@ -3,7 +3,7 @@ mod lines;
 mod preamble;
 mod text;
 
-use doorquill::Answer;
+use answers::Answer;
 use doorquill::doorquill_read_sections;
 use lines::event_lines;
 use lines::pair_line;

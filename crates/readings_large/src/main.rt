@@ -3,7 +3,7 @@
 mod rooms;
 mod text;
 
-use doorquill::Answer;
+use answers::Answer;
 use doorquill::doorquill_read_sections;
 use rooms::first_bytes;
 use rooms::first_numbers;

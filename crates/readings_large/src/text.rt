@@ -1,5 +1,5 @@
 // What the program prints.
-use doorquill::Answer;
+use answers::Answer;
 use libc::STDOUT_FILENO;
 
 fn say(words: &[u8]) {

@@ -25,7 +25,7 @@ use crate::frame::load;
 use crate::frame::number;
 use crate::frame::words_of;
 use crate::text;
-use doorquill::Answer;
+use answers::Answer;
 
 // What came of a case: the answer's number, and whether all was as stored; or that the case asks for more room than there is.
 pub(crate) enum Found {

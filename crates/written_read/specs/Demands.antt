@@ -28,8 +28,9 @@ use Rattle.sections_writer.specs.Writer as writer
 use Rattle.read_back.specs.ReadBack as back
 use Rattle.reread.specs.Reread.Refused.{Comes, Own, writes-as, Full, gives-as}
 use Rattle.reread.specs.Reread.Stream.{read-back}
-use Rattle.doorquill.specs.Entries.{Outcome, accepted, refused, answer, eventBytes, Lent, LeftKept, leavesKept, checked, readSections, readChanges}
-use Rattle.doorquill.specs.Entries.Laws.{Allowed, padded-front, answer-events, answer-values, allowed-values, acceptance-is, refusal-is}
+use Rattle.answers.specs.Outcome.{Outcome, accepted, refused, answer, eventBytes, Lent, LeftKept, leavesKept}
+use Rattle.doorquill.specs.Entries.{checked, readSections, readChanges}
+use Rattle.answers.specs.Outcome.Laws.{Allowed, padded-front, answer-events, answer-values, allowed-values, acceptance-is, refusal-is}
 use Rattle.doorquill.specs.Entries.Scanned.{Scanned, sections-scanned, changes-scanned}
 use Rattle.doorquill.specs.Demands.{Answers, Output, answers-of, events-of}
 use Rattle.doorquill.specs.Written.{filled, writeSections, readBack}

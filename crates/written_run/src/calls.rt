@@ -1,6 +1,6 @@
 // The calls, over a few tables, with an output full of garbage.
 use crate::text::show;
-use doorquill::Answer;
+use answers::Answer;
 
 fn call(
     back: bool,

@@ -2,7 +2,7 @@
 // back, written again, and read as sections beside change reading.
 use crate::text::line;
 use crate::text::show;
-use doorquill::Answer;
+use answers::Answer;
 use libc::STDIN_FILENO;
 ghost use Prim.Native.Nat.{_≤_};
 

@@ -1,5 +1,5 @@
 // What the program prints.
-use doorquill::Answer;
+use answers::Answer;
 use libc::STDOUT_FILENO;
 
 const DIGITS: [u8; 16] = *b"0123456789abcdef";

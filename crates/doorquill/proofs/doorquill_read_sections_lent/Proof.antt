@@ -40,15 +40,15 @@ use denote.Triple.Clauses.{ensured, lasts}
 use denote.Triple.Table.{entered, cited}
 use denote.Triple.Walked.{says, Stays, stay-none-slice, stay-none, gave-slice, walkOf, goes-none-slice, goes-none, goes-gave-slice, Walks, ends-at, walked, walk-meets}
 use denote.Exit.{yes}
-use Rattle.doorquill.specs.Reading.{lentOf}
+use Rattle.answers.specs.Reading.{lentOf}
 use Rattle.doorquill.specs.Lent.{readSectionsLent}
 use Rattle.doorquill.specs.Lent.Flat.{roomFor, Unpacked, readFlat, leftLent}
 use Rattle.doorquill.specs.Lent.Entry.{fits-room, read-same}
 use Rattle.doorquill.specs.declared.Vector.{Vector}
-use Rattle.doorquill.specs.declared.Answer.{Answer}
+use Rattle.answers.specs.declared.Answer.{Answer}
 use Rattle.doorquill.proofs.Vector as T
-use Rattle.doorquill.proofs.Answer as S
-use Rattle.doorquill.proofs.Answer.Laws as S′
+use Rattle.answers.proofs.Answer as S
+use Rattle.answers.proofs.Answer.Laws as S′
 use Rattle.doorquill.proofs.Again.{LentAgain, lends-again, comes-back}
 use Rattle.doorquill.proofs.lent.room_for as room-for
 use Rattle.doorquill.proofs.lent.room_for.Symbol as room-for-def

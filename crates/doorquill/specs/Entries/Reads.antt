@@ -19,8 +19,9 @@ use Rattle.gather.specs.Run.{gathers, Scan, acts, Went, went, out, runAll}
 use Rattle.gather.specs.Run.Rendered.{rendered, valuesOf, stepsOf, Within}
 use Rattle.gather.specs.Run.Events.{Ends, made, Overflows, Refusal}
 use Rattle.gather.specs.Run.Events.Laws as running
-use Rattle.doorquill.specs.Entries.{Outcome, accepted, refused, answer, eventBytes, valueBytes, Lent, checked, outcome, reads}
-use Rattle.doorquill.specs.Entries.Laws.{Allowed, acceptance-is, refusal-is}
+use Rattle.answers.specs.Outcome.{Outcome, accepted, refused, answer, eventBytes, valueBytes, Lent}
+use Rattle.doorquill.specs.Entries.{checked, outcome, reads}
+use Rattle.answers.specs.Outcome.Laws.{Allowed, acceptance-is, refusal-is}
 use Rattle.doorquill.specs.Entries.Numbers.{checks-number}
 use Rattle.doorquill.specs.Entries.Scanned.{Scanned}
 

@@ -16,8 +16,9 @@ use Rattle.rules.specs.Demand3.{Demand3}
 use Rattle.gather.specs.Run.{gathers, acts}
 use Rattle.signals.specs.Sections.{scanSections}
 use Rattle.doorquill.specs.declared.Vector.{Vector}
-use Rattle.doorquill.specs.Entries.{Outcome, refused, answer, eventBytes, valueBytes, padded, Lent, leaves, checked, reads, readSections}
-use Rattle.doorquill.specs.Entries.Laws.{padded-length, padded-past, padded-nothing, refusal-rest}
+use Rattle.answers.specs.Outcome.{Outcome, refused, answer, eventBytes, valueBytes, padded, Lent, leaves}
+use Rattle.doorquill.specs.Entries.{checked, reads, readSections}
+use Rattle.answers.specs.Outcome.Laws.{padded-length, padded-past, padded-nothing, refusal-rest}
 use Rattle.doorquill.specs.Demands.{Answers, Output, Demand1, Demand2, sections-1, sections-2, sections-3}
 use Rattle.doorquill.specs.Lent.{tableOf, LeftLent, checksLent, leftBy, readSectionsLent}
 use Rattle.doorquill.specs.Lent.Entry.{vectors-table}

@@ -12,8 +12,9 @@ use Rattle.tables.specs.Checks.{unless, andThen, withinLimit, check1}
 use Rattle.tables.specs.declared.Check.{Check}
 use Rattle.tables.specs.declared.Check.the-variants.{Passed, Refused}
 use Rattle.doorquill.specs.declared.Vector.{Vector}
-use Rattle.doorquill.specs.declared.Answer.{Answer}
-use Rattle.doorquill.specs.Entries.{refused, Lent, leaves, readSections}
+use Rattle.answers.specs.declared.Answer.{Answer}
+use Rattle.answers.specs.Outcome.{refused, Lent, leaves}
+use Rattle.doorquill.specs.Entries.{readSections}
 use Rattle.doorquill.specs.Lent.{LeftLent}
 
 -- what stands past the last record

@@ -16,9 +16,10 @@ use Rattle.tables.specs.Checks.{unless, andThen, withinLimit, check1}
 use Rattle.tables.specs.Checks.Laws.{both, unless-passed, then-passed}
 use Rattle.tables.specs.declared.Check.{Check}
 use Rattle.tables.specs.declared.Check.the-variants.{Passed, Refused}
-use Rattle.doorquill.specs.declared.Answer.{Answer}
-use Rattle.doorquill.specs.Entries.{Left, Lent, refused, leaves, readSections}
-use Rattle.doorquill.specs.Reading.{leftOf, lentOf}
+use Rattle.answers.specs.declared.Answer.{Answer}
+use Rattle.answers.specs.Outcome.{Left, Lent, refused, leaves}
+use Rattle.doorquill.specs.Entries.{readSections}
+use Rattle.answers.specs.Reading.{leftOf, lentOf}
 use Rattle.doorquill.specs.Lent.{LeftLent}
 use Rattle.doorquill.specs.Lent.Flat.{roomFor, lows, flatTable, checkFlat, checksFlat, readPassed, refusedLent, readBy, readFlat, leftLent}
 

@@ -7,7 +7,8 @@ use mathlib.Core.List.{List, [], _∷_}
 use lib.ListN.{replicate}
 use Rattle.numbers.specs.Fixed.{bigBytes}
 use Rattle.doorquill.specs.declared.Vector.{Vector}
-use Rattle.doorquill.specs.Entries.{Lent, readSections}
+use Rattle.answers.specs.Outcome.{Lent}
+use Rattle.doorquill.specs.Entries.{readSections}
 use Rattle.doorquill.specs.Rows.{Refuses, left, lent, small}
 use Rattle.doorquill.specs.Rows.Opened.{opened}
 use Rattle.doorquill.specs.Lent.{LeftLent, tableOf, checksLent, leftBy, readSectionsLent}

@@ -5,7 +5,7 @@ use mathlib.Core.Path.{_≡_, sym, _∙_}
 use mathlib.Core.Bool.{Bool}
 use mathlib.Core.List.{List}
 use Rattle.doorquill.specs.declared.Vector.{Vector}
-use Rattle.doorquill.specs.Entries.{Lent}
+use Rattle.answers.specs.Outcome.{Lent}
 use Rattle.doorquill.specs.Lent.{LeftLent, readSectionsLent}
 
 -- "Prove that two outcomes satisfying it are equal"

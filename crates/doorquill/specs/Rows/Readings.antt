@@ -8,7 +8,8 @@ use mathlib.Core.List.{List, [], _∷_}
 use native.Mathlib.Nat.{sub-zero}
 use lib.ListN.{length, replicate}
 use Rattle.numbers.specs.Fixed.{bigBytes}
-use Rattle.doorquill.specs.Entries.{Outcome, refused, answer, Lent, leaves, readSections}
+use Rattle.answers.specs.Outcome.{Outcome, refused, answer, Lent, leaves}
+use Rattle.doorquill.specs.Entries.{readSections}
 use Rattle.doorquill.specs.Rows.{Refuses, Gives, Keeps, left, lent, ample, tables, noSignals, lone, plain, twoState, sections, tailer, changes, rule}
 use Rattle.doorquill.specs.Rows.Opened.{opened}
 

@@ -8,7 +8,8 @@ use lib.ListN.{length, replicate}
 use Rattle.numbers.specs.Fixed.{bigBytes}
 use Rattle.tables.specs.Lists.{Lists}
 use Rattle.gather.specs.Run.{done}
-use Rattle.doorquill.specs.Entries.{accepted, refused, reads, readSections, readChanges, applyTimeRule}
+use Rattle.answers.specs.Outcome.{accepted, refused}
+use Rattle.doorquill.specs.Entries.{reads, readSections, readChanges, applyTimeRule}
 use Rattle.doorquill.specs.Rows.{Refuses, Gives, Fully, Keeps, lent, ample, tables, noSignals, lone, plain, twoState, nineState, small, sections, tailer, changes, rule}
 use Rattle.doorquill.specs.Rows.Opened.{opened}
 

@@ -15,7 +15,8 @@ use Rattle.rules.specs.Gather.{time, write, stepEnd}
 use Rattle.gather.specs.Run.{say, done, fault}
 use Rattle.signals.specs.Sections.{scanSections}
 use Rattle.changes.specs.Changes.{scanChanges}
-use Rattle.doorquill.specs.Entries.{Left, Lent, readSections}
+use Rattle.answers.specs.Outcome.{Left, Lent}
+use Rattle.doorquill.specs.Entries.{readSections}
 use Rattle.doorquill.specs.Rows.{Refuses, Fully, left, lent, ample, nineState, small, changes}
 use Rattle.doorquill.specs.Rows.Opened.{opened}
 

@@ -22,7 +22,8 @@ use Rattle.sections_writer.specs.Writer as writer
 use Rattle.sections_writer.specs.Writer.Kinds.{sections-kinds}
 use Rattle.read_back.specs.ReadBack as back
 use Rattle.read_back.specs.ReadBack.Kinds.{back-kinds}
-use Rattle.doorquill.specs.Entries.{accepted, refused, LeftKept, leavesKept, checked}
+use Rattle.answers.specs.Outcome.{accepted, refused, LeftKept, leavesKept}
+use Rattle.doorquill.specs.Entries.{checked}
 use Rattle.doorquill.specs.Written.{filled, writeSections, readBack}
 
 -- ---- the end of a call whose code filled the output

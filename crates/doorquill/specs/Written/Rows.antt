@@ -12,7 +12,7 @@ use Rattle.tables.specs.Lists.{Lists}
 use Rattle.sections_writer.specs.Checked as checks
 use Rattle.sections_writer.specs.Writer as writer
 use Rattle.read_back.specs.ReadBack as back
-use Rattle.doorquill.specs.Entries.{LeftKept}
+use Rattle.answers.specs.Outcome.{LeftKept}
 use Rattle.doorquill.specs.Rows.{Refuses, Keeps, tables, noSignals, lone, small}
 use Rattle.doorquill.specs.Rows.Opened.{opened}
 use Rattle.doorquill.specs.Written.{filled, writeSections, readBack}

@@ -5,7 +5,7 @@ use mathlib.Core.Path.{_≡_, sym, _∙_}
 use mathlib.Core.Bool.{Bool}
 use mathlib.Core.List.{List}
 use Rattle.tables.specs.Lists.{Lists}
-use Rattle.doorquill.specs.Entries.{LeftKept}
+use Rattle.answers.specs.Outcome.{LeftKept}
 use Rattle.doorquill.specs.Written.{writeSections, readBack}
 
 -- "Prove that two outcomes satisfying it are equal"

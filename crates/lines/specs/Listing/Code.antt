@@ -9,9 +9,9 @@ use borrow.Author.Tests.{lt-leb, le-leb, eq-eqb, ne-eqb}
 use lib.ListN.{length, take, drop, length-drop}
 use lib.Seq.{length-take-le, take-all}
 use Rattle.tables.specs.Lists.{Lists}
-use Rattle.doorquill.specs.declared.Answer.{Answer}
+use Rattle.answers.specs.declared.Answer.{Answer}
 use Rattle.doorquill.specs.Entries.{readSections}
-use Rattle.doorquill.specs.Reading.{leftOf, lentOf}
+use Rattle.answers.specs.Reading.{leftOf, lentOf}
 use Rattle.lines.specs.declared.preamble.Opened.{Opened}
 use Rattle.lines.specs.declared.preamble.Opened.the-variants as opened
 use Rattle.lines.specs.Text.{Holds}

@@ -27,7 +27,8 @@ use Rattle.records.specs.Stream.{eventLength, recordAt, nextEvent}
 use Rattle.records.specs.Stream.Laws.{Stands, found-event}
 use Rattle.gather.specs.Run.Rendered.{rendered, valuesOf}
 use Rattle.signals.specs.Sections.{scanSections}
-use Rattle.doorquill.specs.Entries.{Left, readSections}
+use Rattle.answers.specs.Outcome.{Left}
+use Rattle.doorquill.specs.Entries.{readSections}
 use Rattle.doorquill.specs.Entries.Reads.{eventsFrom}
 use Rattle.doorquill.specs.Demands.{sections-1, sections-2}
 use Rattle.lines.specs.Text.{decimalOf, decimal, hex, Holds, Prints}

@@ -1,5 +1,5 @@
 -- `doorquill::lent::zero_flat` meets its contract: each need follows from `zero-laws`. Assumes nothing.
-use Rattle.doorquill.specs.Reading.{zero-laws}
+use Rattle.answers.specs.Reading.{zero-laws}
 use borrow.Author.Needs.{needs}
 use Rattle.doorquill.proofs.lent.zero_flat.Statement.{statement}
 use Rattle.doorquill.proofs.lent.zero_flat.Tie as tie

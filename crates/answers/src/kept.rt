@@ -1,0 +1,44 @@
+// How a call with one output ends: the time rule, whose output is what it keeps, and the requests.
+use crate::Answer;
+use crate::ends::clear_past;
+use crate::ends::refused;
+use crate::ends::widen;
+use tables::within_limit;
+ghost use mathlib.Core.Path.{_≡_};
+ghost use mathlib.Core.Bool.{_&&_};
+ghost use mathlib.Core.List.{[]};
+ghost use Prim.Native.Nat.{_≤_};
+ghost use lib.ListN.{length, take};
+ghost use Rattle.tables.specs.Checks.{withinLimit};
+ghost use Rattle.answers.specs.Outcome.{accepted, refused, LeftKept, leavesKept};
+
+// A refusal: the output becomes zero.
+pub fn refuse_kept(kept: &mut [u8], number: u64, place: u64) -> Answer
+    ensures { λ r. ⌜ _≡_ {A = LeftKept} (record { answer = r; kept = now (kept .exit) }) (leavesKept (length (now (kept .entry))) (refused number place)) ⌝ }
+{
+    clear_past(kept, 0);
+    refused(number, place)
+}
+
+// An accepted end: what lies past the reported bytes becomes zero.
+pub fn accept_kept(kept: &mut [u8], read: usize, n: usize, steps: u64) -> Answer
+    requires { ⌜ n ≤ length (now kept) ⌝ }
+    ensures { λ r. ⌜ _≡_ {A = LeftKept} (record { answer = r; kept = now (kept .exit) }) (leavesKept (length (now (kept .entry))) (accepted read (take n (now (kept .entry))) [] steps)) ⌝ }
+{
+    clear_past(kept, n);
+    Answer {
+        number: 0,
+        place: 0,
+        read: widen(read),
+        events: widen(n),
+        values: 0,
+        steps,
+    }
+}
+
+// Check 1 of a call with two inputs and one output.
+pub fn within_limits(events: usize, values: usize, kept: usize) -> bool
+    ensures { λ r. ⌜ r ≡ (withinLimit events && withinLimit values && withinLimit kept) ⌝ }
+{
+    within_limit(events) & within_limit(values) & within_limit(kept)
+}
