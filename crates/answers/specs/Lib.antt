@@ -1,3 +1,4 @@
 pub mod Outcome
 pub mod Reading
 pub mod Kept
+pub mod Filled

@@ -12,7 +12,7 @@ ghost use Rattle.vecbuffer.specs.Numbers.{Shapes, layoutFrom, filled};
 ghost use Rattle.answers.specs.Outcome.{answer, accepted, refused, padded, leaves};
 ghost use Rattle.answers.specs.Reading.{leftOf, lentOf, Used, report, Ready, endedAt, Finish};
 
-pub fn widen(x: usize) -> u64
+pub(crate) fn widen(x: usize) -> u64
     ensures { λ r. ⌜ r ≡ x ⌝ }
 {
     x as u64

@@ -4,6 +4,7 @@ use crate::ends::clear_past;
 use crate::ends::refused;
 use crate::ends::widen;
 use tables::within_limit;
+use written::Written;
 ghost use mathlib.Core.Path.{_≡_};
 ghost use mathlib.Core.Bool.{_&&_};
 ghost use mathlib.Core.List.{[]};
@@ -11,6 +12,7 @@ ghost use Prim.Native.Nat.{_≤_};
 ghost use lib.ListN.{length, take};
 ghost use Rattle.tables.specs.Checks.{withinLimit};
 ghost use Rattle.answers.specs.Outcome.{accepted, refused, LeftKept, leavesKept};
+ghost use Rattle.answers.specs.Filled.{filledAt, Within};
 
 // A refusal: the output becomes zero.
 pub fn refuse_kept(kept: &mut [u8], number: u64, place: u64) -> Answer
@@ -21,7 +23,7 @@ pub fn refuse_kept(kept: &mut [u8], number: u64, place: u64) -> Answer
 }
 
 // An accepted end: what lies past the reported bytes becomes zero.
-pub fn accept_kept(kept: &mut [u8], read: usize, n: usize, steps: u64) -> Answer
+fn accept_kept(kept: &mut [u8], read: usize, n: usize, steps: u64) -> Answer
     requires { ⌜ n ≤ length (now kept) ⌝ }
     ensures { λ r. ⌜ _≡_ {A = LeftKept} (record { answer = r; kept = now (kept .exit) }) (leavesKept (length (now (kept .entry))) (accepted read (take n (now (kept .entry))) [] steps)) ⌝ }
 {
@@ -33,6 +35,17 @@ pub fn accept_kept(kept: &mut [u8], read: usize, n: usize, steps: u64) -> Answer
         events: widen(n),
         values: 0,
         steps,
+    }
+}
+
+// The end of a call whose code filled the output.
+pub fn end_filled(out: &mut [u8], w: Written) -> Answer
+    requires { ⌜ Within (now out) w ⌝ }
+    ensures { λ r. ⌜ _≡_ {A = LeftKept} (record { answer = r; kept = now (out .exit) }) (leavesKept (length (now (out .entry))) (filledAt (now (out .entry)) w)) ⌝ }
+{
+    match w {
+        Written::Done { read, count, steps } => accept_kept(out, read, count, steps),
+        Written::Refused(number, place) => refuse_kept(out, number, widen(place)),
     }
 }
 

@@ -2,24 +2,18 @@
 -- Assumes nothing.
 use Prim.Native.Nat.{ℕ}
 use mathlib.Core.Bool.{Bool}
-use mathlib.Core.List.{List, []}
+use mathlib.Core.List.{List}
 use lib.ListN.{length}
-use Rattle.written.specs.Ended.{Ended}
-use Rattle.written.specs.Ended as ended
 use Rattle.tables.specs.Lists.{Lists}
 use Rattle.sections_writer.specs.Checked.{checksWithoutRoom}
 use Rattle.sections_writer.specs.Writer as writer
 use Rattle.read_back.specs.ReadBack as back
-use Rattle.answers.specs.Outcome.{Outcome, accepted, refused, LeftKept, leavesKept}
+use Rattle.answers.specs.Outcome.{LeftKept, leavesKept}
+use Rattle.answers.specs.Filled.{filled}
 use Rattle.doorquill.specs.Entries.{checked}
 pub mod Laws
 pub mod Unique
 pub mod Rows
-
--- "A request's other output counts as event bytes, with 0 value bytes; steps are then time records read."
-unfoldable pub filled : Ended → Outcome
-filled (ended.wrote i bs n) = accepted i bs [] n
-filled (ended.refused n p) = refused n p
 
 -- "Checks 1 to 6 come first": 6 asks about working room, of which these calls are lent none and need none, so it is never given
 unfoldable pub writeSections : Lists → Bool → List ℕ → (room : ℕ) → LeftKept

@@ -1,33 +1,29 @@
 // The public entries.
-mod filled;
 mod lent;
 mod passed;
 
 use answers::Answer;
 use answers::ends::refuse;
-use answers::ends::widen;
-use answers::kept::accept_kept;
+use answers::kept::end_filled;
 use answers::kept::refuse_kept;
 use answers::kept::within_limits;
-use encoder::Applied;
 use encoder::apply;
-use filled::records_back;
-use filled::sections_written;
 use lent::read_flat;
 use lent::room_for;
 use lent::unpack;
 use passed::changes_passed;
 use passed::sections_passed;
+use read_back::read_back;
 use sections_writer::checks_without_room;
+use sections_writer::write_sections;
 use tables::Check;
 use tables::checks;
 ghost use mathlib.Core.Path.{_≡_};
 ghost use lib.ListN.{length};
 ghost use Rattle.tables.specs.Lists.{lists};
-ghost use Rattle.answers.specs.Outcome.{LeftKept, leavesKept};
+ghost use Rattle.answers.specs.Outcome.{LeftKept};
 ghost use Rattle.doorquill.specs.Entries.{readSections, readChanges, applyTimeRule};
 ghost use Rattle.answers.specs.Reading.{leftOf, lentOf};
-ghost use Rattle.doorquill.specs.Kept.{Held, ended};
 ghost use Rattle.doorquill.specs.Lent.Flat.{leftLent};
 ghost use Rattle.doorquill.specs.Lent.{readSectionsLent};
 ghost use Rattle.doorquill.specs.Written.{writeSections, readBack};
@@ -177,29 +173,14 @@ pub extern "C" fn doorquill_read_changes(
     }
 }
 
-// The end of the time rule.
-fn end_kept(kept: &mut [u8], a: Applied) -> Answer
-    requires { ⌜ Held (now kept) a ⌝ }
-    ensures { λ r. ⌜ _≡_ {A = LeftKept} (record { answer = r; kept = now (kept .exit) }) (leavesKept (length (now (kept .entry))) (ended (now (kept .entry)) a)) ⌝ }
-{
-    match a {
-        Applied::Done {
-            read,
-            kept: n,
-            steps,
-        } => accept_kept(kept, read, n, steps),
-        Applied::Refused(number, place) => refuse_kept(kept, number, widen(place)),
-    }
-}
-
 // The time rule over an event stream and its value bytes: what is kept of it.
 #[no_mangle]
 pub extern "C" fn doorquill_time_rule(events: &[u8], values: &[u8], kept: &mut [u8]) -> Answer
     ensures { λ r. ⌜ _≡_ {A = LeftKept} (record { answer = r; kept = now (kept .exit) }) (applyTimeRule (now (events .entry)) (length (now (values .entry))) (length (now (kept .entry)))) ⌝ }
 {
     if within_limits(events.len(), values.len(), kept.len()) {
-        let a = apply(events, values.len(), kept);
-        return end_kept(kept, a);
+        let w = apply(events, values.len(), kept);
+        return end_filled(kept, w);
     }
     refuse_kept(kept, 1, 0)
 }
@@ -231,7 +212,11 @@ pub extern "C" fn doorquill_write_sections(
         changes.len(),
         out.len(),
     ) {
-        Check::Passed => sections_written(kinds, big_endian, changes, out),
+        // Of the tables the kinds alone are asked.
+        Check::Passed => {
+            let w = write_sections(kinds, big_endian, changes, out);
+            end_filled(out, w)
+        }
         Check::Refused(number, place) => refuse_kept(out, number, place),
     }
 }
@@ -263,7 +248,10 @@ pub extern "C" fn doorquill_read_back(
         input.len(),
         out.len(),
     ) {
-        Check::Passed => records_back(kinds, big_endian, input, out),
+        Check::Passed => {
+            let w = read_back(kinds, big_endian, input, out);
+            end_filled(out, w)
+        }
         Check::Refused(number, place) => refuse_kept(out, number, place),
     }
 }

@@ -3,6 +3,7 @@ use records::Next;
 use records::Record;
 use records::next_event;
 use slices::copy_part;
+use written::Written;
 ghost use mathlib.Core.Path.{_≡_};
 ghost use Prim.Native.Nat.{_≤_};
 ghost use lib.ListN.{length};
@@ -26,19 +27,9 @@ struct Progress {
     steps: u64,
 }
 
-pub enum Applied {
-    Done {
-        read: usize,
-        kept: usize,
-        steps: u64,
-    },
-    // A refusal's number and place.
-    Refused(u64, usize),
-}
-
 enum Turn {
     More(Progress),
-    Over(Applied),
+    Over(Written),
 }
 
 // "A larger one is kept"; "Value and real events are dropped while skipping."
@@ -116,7 +107,7 @@ fn take_event(s: &[u8], kept: &mut [u8], p: Progress, event: Record, next: usize
     let size = next - p.read;
     let n = room_taken(p.clock, event, size);
     if kept.len() - p.kept < n {
-        return Turn::Over(Applied::Refused(16, next));
+        return Turn::Over(Written::Refused(16, next));
     }
     copy_part(s, p.read, n, kept, p.kept);
     Turn::More(Progress {
@@ -135,17 +126,17 @@ fn one(s: &[u8], values: usize, kept: &mut [u8], p: Progress) -> Turn
     let clock = p.clock;
     match next_event(s, values, clock.begun, p.read) {
         Next::Event(event, next) => take_event(s, kept, p, event, next),
-        Next::End => Turn::Over(Applied::Done {
+        Next::End => Turn::Over(Written::Done {
             read: p.read,
-            kept: p.kept,
+            count: p.kept,
             steps: p.steps,
         }),
-        Next::Bad(number, place) => Turn::Over(Applied::Refused(number, place)),
+        Next::Bad(number, place) => Turn::Over(Written::Refused(number, place)),
     }
 }
 
 // The time rule over an event stream whose value buffer has `values` bytes.
-pub fn apply(s: &[u8], values: usize, kept: &mut [u8]) -> Applied
+pub fn apply(s: &[u8], values: usize, kept: &mut [u8]) -> Written
     ensures { λ r. ⌜ Applies (now (s .entry)) values (length (now (kept .entry))) (now (kept .exit)) r ⌝ }
 {
     let clock = Clock {

@@ -33,7 +33,8 @@ use Rattle.doorquill.specs.Entries.{checked, readSections, readChanges}
 use Rattle.answers.specs.Outcome.Laws.{Allowed, padded-front, answer-events, answer-values, allowed-values, acceptance-is, refusal-is}
 use Rattle.doorquill.specs.Entries.Scanned.{Scanned, sections-scanned, changes-scanned}
 use Rattle.doorquill.specs.Demands.{Answers, Output, answers-of, events-of}
-use Rattle.doorquill.specs.Written.{filled, writeSections, readBack}
+use Rattle.answers.specs.Filled.{filled}
+use Rattle.doorquill.specs.Written.{writeSections, readBack}
 use Rattle.written_read.specs.Entry.{Alike, same-left}
 
 -- the bytes that an answer reports

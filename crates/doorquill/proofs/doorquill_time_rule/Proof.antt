@@ -10,8 +10,8 @@ within-limits-requires c κs = search (rule-laws, needs)
 apply-requires : tie.Need-apply-requires
 apply-requires c κs = search (rule-laws, needs)
 
-end-kept-requires : tie.Need-end-kept-requires
-end-kept-requires c κs = search (rule-laws, needs)
+end-filled-requires : tie.Need-end-filled-requires
+end-filled-requires c κs = search (rule-laws, needs)
 
 same-length : tie.Need-same-length
 same-length c = search (rule-laws, needs)
@@ -34,7 +34,7 @@ doorquill-time-rule-spec =
     (tie.spec
     within-limits-requires
     apply-requires
-    end-kept-requires
+    end-filled-requires
     same-length
     returns
     refuse-kept-requires

@@ -1,35 +1,39 @@
--- `doorquill::doorquill_write_sections` meets its contract: each need follows from `entry-laws`. Assumes nothing.
+-- `doorquill::doorquill_write_sections` meets its contract: each need follows from `entry-laws`, `filled-laws`. Assumes nothing.
+use Rattle.answers.specs.Filled.{filled-laws}
 use Rattle.doorquill.specs.Written.Laws.{entry-laws}
 use borrow.Author.Needs.{needs}
 use Rattle.doorquill.proofs.doorquill_write_sections.Statement.{statement}
 use Rattle.doorquill.proofs.doorquill_write_sections.Tie as tie
 
 checks-without-room-requires : tie.Need-checks-without-room-requires
-checks-without-room-requires c κs = search (entry-laws, needs)
+checks-without-room-requires c κs = search (entry-laws, filled-laws, needs)
 
 enum-told : tie.Need-enum-told
-enum-told c = search (entry-laws, needs)
+enum-told c = search (entry-laws, filled-laws, needs)
 
-sections-written-requires : tie.Need-sections-written-requires
-sections-written-requires c κs = search (entry-laws, needs)
+write-sections-requires : tie.Need-write-sections-requires
+write-sections-requires c κs = search (entry-laws, filled-laws, needs)
+
+end-filled-requires : tie.Need-end-filled-requires
+end-filled-requires c κs = search (entry-laws, filled-laws, needs)
 
 enum-known-number : tie.Need-enum-known-number
-enum-known-number c = search (entry-laws, needs)
+enum-known-number c = search (entry-laws, filled-laws, needs)
 
 refuse-kept-requires : tie.Need-refuse-kept-requires
-refuse-kept-requires c κs = search (entry-laws, needs)
+refuse-kept-requires c κs = search (entry-laws, filled-laws, needs)
 
 same-length : tie.Need-same-length
-same-length c = search (entry-laws, needs)
+same-length c = search (entry-laws, filled-laws, needs)
 
 returns : tie.Need-returns
-returns c = search (entry-laws, needs)
+returns c = search (entry-laws, filled-laws, needs)
 
 same-length-2 : tie.Need-same-length-2
-same-length-2 c = search (entry-laws, needs)
+same-length-2 c = search (entry-laws, filled-laws, needs)
 
 returns-2 : tie.Need-returns-2
-returns-2 c = search (entry-laws, needs)
+returns-2 c = search (entry-laws, filled-laws, needs)
 
 pub doorquill-write-sections-spec : {M : Type 1} → statement M
 doorquill-write-sections-spec =
@@ -37,7 +41,8 @@ doorquill-write-sections-spec =
     (tie.spec
     checks-without-room-requires
     enum-told
-    sections-written-requires
+    write-sections-requires
+    end-filled-requires
     enum-known-number
     refuse-kept-requires
     same-length

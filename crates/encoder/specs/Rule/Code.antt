@@ -22,8 +22,8 @@ use Rattle.encoder.specs.declared.Clock.{Clock}
 use Rattle.encoder.specs.declared.Progress.{Progress}
 use Rattle.encoder.specs.declared.Turn.{Turn}
 use Rattle.encoder.specs.declared.Turn.the-variants.{More, Over}
-use Rattle.encoder.specs.declared.Applied.{Applied}
-use Rattle.encoder.specs.declared.Applied.the-variants.{Done, Refused}
+use Rattle.written.specs.declared.Written.{Written}
+use Rattle.written.specs.declared.Written.the-variants.{Done, Refused}
 use Rattle.encoder.specs.Rule.{keeps, kept, ticks, times, Kept, one, rule, timeRule}
 use Rattle.encoder.specs.Rule.Promise.{Applies}
 
@@ -298,7 +298,7 @@ module _ {s : List ℕ} {values room : ℕ} {p : Progress} {kept : List ℕ} (o 
     pub less : {q : Progress} → t ≡ More q → length s - q .read < length s - p .read
     less e = let c = subst (Comes s values room p kept') e came in omega (arith, c .1, c .0 .within)
 
-    pub answered : {r : Applied} → t ≡ Over r → Applies s values room kept' r
+    pub answered : {r : Written} → t ≡ Over r → Applies s values room kept' r
     answered e = subst (Comes s values room p kept') e came
 
 pub ruleset keeps-laws = (keeps-later, keeps-first, keeps-value, keeps-real)

@@ -1,17 +1,17 @@
--- `doorquill::end_kept` meets its contract: each need follows from `end-laws`. Assumes nothing.
-use Rattle.doorquill.specs.Kept.{end-laws}
+-- `answers::kept::end_filled` meets its contract: each need follows from `end-laws`. Assumes nothing.
+use Rattle.answers.specs.Filled.{end-laws}
 use borrow.Author.Needs.{needs}
-use Rattle.doorquill.proofs.end_kept.Statement.{statement}
-use Rattle.doorquill.proofs.end_kept.Tie as tie
+use Rattle.answers.proofs.kept.end_filled.Statement.{statement}
+use Rattle.answers.proofs.kept.end_filled.Tie as tie
 
-enum-known-a : tie.Need-enum-known-a
-enum-known-a c = search (end-laws, needs)
+enum-known-w : tie.Need-enum-known-w
+enum-known-w c = search (end-laws, needs)
 
 accept-kept-requires : tie.Need-accept-kept-requires
 accept-kept-requires c κs = search (end-laws, needs)
 
-enum-known-a-2 : tie.Need-enum-known-a-2
-enum-known-a-2 c = search (end-laws, needs)
+enum-known-w-2 : tie.Need-enum-known-w-2
+enum-known-w-2 c = search (end-laws, needs)
 
 widen-requires : tie.Need-widen-requires
 widen-requires c κs = search (end-laws, needs)
@@ -31,13 +31,13 @@ same-length-2 c = search (end-laws, needs)
 returns-2 : tie.Need-returns-2
 returns-2 c = search (end-laws, needs)
 
-pub end-kept-spec : {M : Type 1} → statement M
-end-kept-spec =
+pub end-filled-spec : {M : Type 1} → statement M
+end-filled-spec =
     tie.close
     (tie.spec
-    enum-known-a
+    enum-known-w
     accept-kept-requires
-    enum-known-a-2
+    enum-known-w-2
     widen-requires
     refuse-kept-requires
     same-length
