@@ -45,8 +45,8 @@ use Rattle.signals.specs.Sections.Loops.{OnWrites, writes-more}
 use Rattle.signals.specs.Parts.{withKinds, nextOf, oneValue}
 use Rattle.signals.specs.declared.NextId.the-variants.{Id}
 use Rattle.signals.specs.declared.Source.the-variants.{Listed}
-use Rattle.signals.specs.declared.Short.{Short}
-use Rattle.signals.specs.declared.Short.the-variants as short
+use Rattle.signals.specs.declared.runs.Short.{Short}
+use Rattle.signals.specs.declared.runs.Short.the-variants as short
 pub mod Code
 pub mod Run
 

@@ -27,9 +27,9 @@ use Rattle.gather.specs.declared.Gathered.{Gathered}
 use Rattle.signals.specs.Sections.Loops.{OnWrites}
 use Rattle.signals.specs.Sections.Along.{isShort, bitMost, bitMap, shortOf, Taken, Took, Vector, wrote-along, quiet-along}
 use Rattle.signals.specs.declared.Source.the-variants.{Listed}
-use Rattle.signals.specs.declared.Short.{Short}
-use Rattle.signals.specs.declared.Short.the-variants as short
-use Rattle.signals.specs.declared.Reached.{Reached}
+use Rattle.signals.specs.declared.runs.Short.{Short}
+use Rattle.signals.specs.declared.runs.Short.the-variants as short
+use Rattle.signals.specs.declared.runs.Reached.{Reached}
 
 -- ---- a delta and a value
 

@@ -35,7 +35,7 @@ use Rattle.signals.specs.Sections.Along.{Vector}
 use Rattle.signals.specs.Sections.Along.Code.{FollowAsks, Followed}
 use Rattle.signals.specs.declared.Source.{Source}
 use Rattle.signals.specs.declared.Source.the-variants.{Each, Listed, One}
-use Rattle.signals.specs.declared.Reached.{Reached}
+use Rattle.signals.specs.declared.runs.Reached.{Reached}
 
 -- what was written as far as `id` and `at` is now as far as is answered
 pub record Moved (src : Source) (t : Lists) (s : List ℕ) (m m' : Mem) (id at : ℕ) (r : Reached) : Type 0 where

@@ -1,8 +1,8 @@
--- `signals::near` meets its contract: each need follows from `near-laws`. Assumes nothing.
+-- `signals::runs::near` meets its contract: each need follows from `near-laws`. Assumes nothing.
 use Rattle.signals.specs.Sections.Along.Run.{near-laws}
 use borrow.Author.Needs.{needs}
-use Rattle.signals.proofs.near.Statement.{statement}
-use Rattle.signals.proofs.near.Tie as tie
+use Rattle.signals.proofs.runs.near.Statement.{statement}
+use Rattle.signals.proofs.runs.near.Tie as tie
 
 returns : tie.Need-returns
 returns c = search (near-laws, needs)

@@ -1,8 +1,8 @@
--- `signals::read_along` meets its contract: each need follows from `along-laws`. Assumes nothing.
+-- `signals::runs::read_along` meets its contract: each need follows from `along-laws`. Assumes nothing.
 use Rattle.signals.specs.Sections.Along.Run.{along-laws}
 use borrow.Author.Needs.{needs}
-use Rattle.signals.proofs.read_along.Statement.{statement}
-use Rattle.signals.proofs.read_along.Tie as tie
+use Rattle.signals.proofs.runs.read_along.Statement.{statement}
+use Rattle.signals.proofs.runs.read_along.Tie as tie
 
 sub-widen : tie.Need-sub-widen
 sub-widen c = search (along-laws, needs)

@@ -1,8 +1,8 @@
--- `signals::along_vector` meets its contract: each need follows from `vector-laws`. Assumes nothing.
+-- `signals::runs::along_vector` meets its contract: each need follows from `vector-laws`. Assumes nothing.
 use Rattle.signals.specs.Sections.Along.Run.{ask-along, vector-laws}
 use borrow.Author.Needs.{needs}
-use Rattle.signals.proofs.along_vector.Statement.{statement}
-use Rattle.signals.proofs.along_vector.Tie as tie
+use Rattle.signals.proofs.runs.along_vector.Statement.{statement}
+use Rattle.signals.proofs.runs.along_vector.Tie as tie
 
 mul-widen : tie.Need-mul-widen
 mul-widen c = search (vector-laws, needs)

@@ -1,8 +1,8 @@
--- `signals::take_change` meets its contract: each need follows from `take-laws`. Assumes nothing.
+-- `signals::runs::take_change` meets its contract: each need follows from `take-laws`. Assumes nothing.
 use Rattle.signals.specs.Sections.Along.Code.{ask-down, take-laws}
 use borrow.Author.Needs.{needs}
-use Rattle.signals.proofs.take_change.Statement.{statement}
-use Rattle.signals.proofs.take_change.Tie as tie
+use Rattle.signals.proofs.runs.take_change.Statement.{statement}
+use Rattle.signals.proofs.runs.take_change.Tie as tie
 
 shared-slice-read-d : tie.Need-shared-slice-read-d
 shared-slice-read-d c = search (take-laws, needs)

@@ -1,10 +1,10 @@
--- `signals::follow` meets its contract: each need follows from `follow-laws`. Assumes nothing.
+-- `signals::runs::follow` meets its contract: each need follows from `follow-laws`. Assumes nothing.
 use Prim.Native.Nat.{_-_}
 use lib.ListN.{length}
 use borrow.Author.Needs.{needs}
 use Rattle.signals.specs.Sections.Along.Code.{Following, follow-laws}
-use Rattle.signals.proofs.follow.Statement.{statement}
-use Rattle.signals.proofs.follow.Tie as tie
+use Rattle.signals.proofs.runs.follow.Statement.{statement}
+use Rattle.signals.proofs.runs.follow.Tie as tie
 
 abbrev Inv-loop : tie.InvT-loop
 Inv-loop kind s room₀ info max from at id₀ i₀ room id i = Following kind info s max from at room₀ room id i

@@ -1,8 +1,8 @@
--- `signals::short_delta` meets its contract: each need follows from `delta-laws`. Assumes nothing.
+-- `signals::runs::short_delta` meets its contract: each need follows from `delta-laws`. Assumes nothing.
 use Rattle.signals.specs.Sections.Along.Code.{delta-laws}
 use borrow.Author.Needs.{needs}
-use Rattle.signals.proofs.short_delta.Statement.{statement}
-use Rattle.signals.proofs.short_delta.Tie as tie
+use Rattle.signals.proofs.runs.short_delta.Statement.{statement}
+use Rattle.signals.proofs.runs.short_delta.Tie as tie
 
 returns : tie.Need-returns
 returns c = search (delta-laws, needs)

@@ -1,8 +1,8 @@
--- `signals::read_run` meets its contract: each need follows from `run-laws`. Assumes nothing.
+-- `signals::runs::read_run` meets its contract: each need follows from `run-laws`. Assumes nothing.
 use Rattle.signals.specs.Sections.Along.Run.{run-laws}
 use borrow.Author.Needs.{needs}
-use Rattle.signals.proofs.read_run.Statement.{statement}
-use Rattle.signals.proofs.read_run.Tie as tie
+use Rattle.signals.proofs.runs.read_run.Statement.{statement}
+use Rattle.signals.proofs.runs.read_run.Tie as tie
 
 enum-told : tie.Need-enum-told
 enum-told c = search (run-laws, needs)

@@ -1,8 +1,8 @@
--- `signals::along_quiet` meets its contract: each need follows from `quiet-laws`. Assumes nothing.
+-- `signals::runs::along_quiet` meets its contract: each need follows from `quiet-laws`. Assumes nothing.
 use Rattle.signals.specs.Sections.Along.Run.{ask-quiet, moves-on, quiet-laws}
 use borrow.Author.Needs.{needs}
-use Rattle.signals.proofs.along_quiet.Statement.{statement}
-use Rattle.signals.proofs.along_quiet.Tie as tie
+use Rattle.signals.proofs.runs.along_quiet.Statement.{statement}
+use Rattle.signals.proofs.runs.along_quiet.Tie as tie
 
 info-of-requires : tie.Need-info-of-requires
 info-of-requires c κs = search (quiet-laws, needs)

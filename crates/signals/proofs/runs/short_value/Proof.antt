@@ -1,8 +1,8 @@
--- `signals::short_value` meets its contract: each need follows from `value-laws`. Assumes nothing.
+-- `signals::runs::short_value` meets its contract: each need follows from `value-laws`. Assumes nothing.
 use Rattle.signals.specs.Sections.Along.Code.{value-laws}
 use borrow.Author.Needs.{needs}
-use Rattle.signals.proofs.short_value.Statement.{statement}
-use Rattle.signals.proofs.short_value.Tie as tie
+use Rattle.signals.proofs.runs.short_value.Statement.{statement}
+use Rattle.signals.proofs.runs.short_value.Tie as tie
 
 enum-told : tie.Need-enum-told
 enum-told c = search (value-laws, needs)

@@ -1,8 +1,8 @@
--- `signals::store_down` meets its contract: each need follows from `store-laws`. Assumes nothing.
+-- `signals::runs::store_down` meets its contract: each need follows from `store-laws`. Assumes nothing.
 use Rattle.signals.specs.Sections.Along.Code.{store-laws}
 use borrow.Author.Needs.{needs}
-use Rattle.signals.proofs.store_down.Statement.{statement}
-use Rattle.signals.proofs.store_down.Tie as tie
+use Rattle.signals.proofs.runs.store_down.Statement.{statement}
+use Rattle.signals.proofs.runs.store_down.Tie as tie
 
 sub-write-new : tie.Need-sub-write-new
 sub-write-new c = search (store-laws, needs)
