@@ -26,6 +26,8 @@ use crate::frame::number;
 use crate::frame::words_of;
 use crate::text;
 use answers::Answer;
+use held::all_zero;
+use held::holds;
 
 // What came of a case: the answer's number, and whether all was as stored; or that the case asks for more room than there is.
 pub(crate) enum Found {
@@ -118,39 +120,6 @@ fn answered(frame: &[u8], a: Answer) -> bool {
         & is(frame, EVENTS, a.events)
         & is(frame, VALUES, a.values)
         & is(frame, STEPS, a.steps)
-}
-
-fn byte_or_zero(s: &[u8], i: usize) -> u8 {
-    if i < s.len() {
-        return s[i];
-    }
-    0
-}
-
-// Whether an output holds these bytes, and zeros after them.
-fn holds(out: &[u8], want: &[u8]) -> bool {
-    if out.len() < want.len() {
-        return false;
-    }
-    let mut i: usize = 0;
-    while i < out.len() {
-        if out[i] != byte_or_zero(want, i) {
-            return false;
-        }
-        i += 1;
-    }
-    true
-}
-
-fn all_zero(list: &[u32]) -> bool {
-    let mut i: usize = 0;
-    while i < list.len() {
-        if list[i] != 0 {
-            return false;
-        }
-        i += 1;
-    }
-    true
 }
 
 fn left(frame: &[u8], events: &[u8], values: &[u8], room: &[u8], list: &[u32]) -> bool {

@@ -3,6 +3,7 @@
 use crate::text::line;
 use crate::text::show;
 use answers::Answer;
+use held::holds;
 use libc::STDIN_FILENO;
 ghost use Prim.Native.Nat.{_≤_};
 
@@ -95,25 +96,6 @@ fn first_bytes(bytes: &[u8], n: usize) -> &[u8] {
         return &bytes[..n];
     }
     bytes
-}
-
-fn byte_or_zero(s: &[u8], i: usize) -> u8 {
-    if i < s.len() {
-        return s[i];
-    }
-    0
-}
-
-// Whether an output holds these bytes, and zeros after them.
-fn holds(out: &[u8], want: &[u8]) -> bool {
-    let mut i: usize = 0;
-    while i < out.len() {
-        if out[i] != byte_or_zero(want, i) {
-            return false;
-        }
-        i += 1;
-    }
-    true
 }
 
 // Whether what is written anew is `w`.
