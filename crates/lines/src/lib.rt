@@ -1,6 +1,6 @@
 // The listing: its preamble, and the text of what section reading finds.
 mod lines;
-mod preamble;
+pub mod preamble;
 mod text;
 
 use answers::Answer;

@@ -111,7 +111,7 @@ struct Progress {
 }
 
 // What the preamble says: the tables, the flag, the place of the first section byte.
-pub(crate) enum Opened {
+pub enum Opened {
     Sections {
         signals: usize,
         vectors: usize,
@@ -233,7 +233,7 @@ fn one(
 }
 
 // All records, to the first section byte.
-pub(crate) fn read_preamble(
+pub fn read_preamble(
     s: &[u8],
     kinds: &mut [u8; 256],
     refs: &mut [u32; 256],

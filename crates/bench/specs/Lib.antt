@@ -1,0 +1,4 @@
+-- The definitions that the promises of `bench` cite.
+-- Assumes nothing.
+pub mod Bench
+pub mod Demands
