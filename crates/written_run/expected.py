@@ -214,9 +214,9 @@ def told(label, call, t, big, s, room):
         check(t)
         read, out, steps = call(t, big, s, room)
     except Refused as r:
-        print(f'{label}: {r.args[0]} {r.args[1]} 0 0 0 ')
+        print(f'{label}: {r.args[0]} {r.args[1]} 0 0 0 0 ')
         return b''
-    print(f'{label}: 0 0 {read} {len(out)} {steps} {out.hex()}')
+    print(f'{label}: 0 0 {read} {len(out)} 0 {steps} {out.hex()}')
     return out
 
 

@@ -4,13 +4,13 @@ mod records;
 mod text;
 
 use answers::Answer;
+use held::parts::first_bytes;
+use held::parts::first_numbers;
+use held::parts::rest;
 use libc::STDIN_FILENO;
 use lines::preamble::Opened;
 use lines::preamble::read_preamble;
 use records::fragments;
-use records::front;
-use records::reported;
-use records::rest;
 use text::refused;
 
 const SESSION: u32 = 3;
@@ -32,7 +32,7 @@ fn benched(kept: &[u8], values: &[u8]) {
     let mut out = [0u8; 16384];
     let a = bench::doorquill_bench(kept, values, SESSION, STROBE, CLOSE, &mut out);
     if good(a) {
-        fragments(reported(&out, a.events));
+        fragments(first_bytes(&out, a.events as usize));
     }
 }
 
@@ -40,7 +40,7 @@ fn ruled(events: &[u8], values: &[u8]) {
     let mut kept = [0u8; 16384];
     let a = doorquill::doorquill_time_rule(events, values, &mut kept);
     if good(a) {
-        benched(reported(&kept, a.events), values);
+        benched(first_bytes(&kept, a.events as usize), values);
     }
 }
 
@@ -76,7 +76,10 @@ fn read(
         &mut list,
     );
     if good(a) {
-        ruled(reported(&events, a.events), reported(&values, a.values));
+        ruled(
+            first_bytes(&events, a.events as usize),
+            first_bytes(&values, a.values as usize),
+        );
     }
 }
 
@@ -105,13 +108,13 @@ fn opened(input: &[u8]) {
             big_endian,
             at,
         } => read(
-            records::first(&kinds, signals),
-            front(&refs, signals),
-            front(&vecs, signals),
-            front(&mins, vectors),
-            front(&maxs, vectors),
-            records::first(&states, vectors),
-            front(&vec_refs, vectors),
+            first_bytes(&kinds, signals),
+            first_numbers(&refs, signals),
+            first_numbers(&vecs, signals),
+            first_numbers(&mins, vectors),
+            first_numbers(&maxs, vectors),
+            first_bytes(&states, vectors),
+            first_numbers(&vec_refs, vectors),
             big_endian,
             rest(input, at),
         ),

@@ -1,5 +1,7 @@
 // A case: the length of its label and the label, the three references, the room, how many value bytes, these, and the events.
 use crate::text::show;
+use held::parts::first_bytes;
+use held::parts::rest;
 ghost use Prim.Native.Nat.{_≤_};
 
 fn byte_at(s: &[u8], i: usize) -> u8 {
@@ -7,21 +9,6 @@ fn byte_at(s: &[u8], i: usize) -> u8 {
         return s[i];
     }
     0
-}
-
-pub(crate) fn first_bytes(bytes: &[u8], n: usize) -> &[u8] {
-    if n <= bytes.len() {
-        return &bytes[..n];
-    }
-    bytes
-}
-
-// What comes after the first `n` bytes.
-fn rest(bytes: &[u8], n: usize) -> &[u8] {
-    if n <= bytes.len() {
-        return &bytes[n..];
-    }
-    bytes
 }
 
 fn widen(x: u8) -> usize

@@ -2,50 +2,29 @@
 mod case;
 mod text;
 
+use held::parts::first_bytes;
+use held::parts::rest;
 use libc::STDIN_FILENO;
 
-// The length of the next case; where the input ends, none.
-fn next_length() -> usize {
-    let mut head = [0u8; 2];
-    let got = io::read_full(STDIN_FILENO, &mut head);
-    if got < 2 {
-        return 0;
-    }
-    case::two(&head)
-}
-
-// Whether the input has so many bytes more, now at the front of `frame`.
-fn fill(frame: &mut [u8], n: usize) -> bool {
-    if frame.len() < n {
-        return false;
-    }
-    io::read_full(STDIN_FILENO, &mut frame[..n]) == n
-}
-
-fn one(frame: &mut [u8]) -> bool {
-    let n = next_length();
-    if n == 0 {
-        return false;
-    }
-    if fill(frame, n) {
-        case::run(case::first_bytes(frame, n));
-        return true;
-    }
-    text::line(b"bad list");
-    false
-}
-
-fn each(frame: &mut [u8]) {
-    let mut left: usize = 65536;
-    while 0 < left {
-        if !one(frame) {
+// A list that does not end with an empty case is bad.
+fn each(list: &[u8]) {
+    let mut at: usize = 0;
+    while 2 <= list.len() - at {
+        let n = case::two(rest(list, at));
+        if n == 0 {
             return;
         }
-        left -= 1;
+        if list.len() - at - 2 < n {
+            break;
+        }
+        case::run(first_bytes(rest(list, at + 2), n));
+        at += 2 + n;
     }
+    text::line(b"bad list");
 }
 
 fn main() {
-    let mut frame = [0u8; 4096];
-    each(&mut frame);
+    let mut list = [0u8; 131072];
+    let n = io::read_full(STDIN_FILENO, &mut list);
+    each(&list[..n]);
 }

@@ -1,4 +1,6 @@
 // What a buffer holds, told by a look at each of its numbers.
+pub mod parts;
+
 ghost use mathlib.Core.Path.{_≡_};
 ghost use lib.ListN.{getD};
 ghost use Rattle.held.specs.Held.{isHeld, isZero};

@@ -1,7 +1,7 @@
 // The listing: its preamble, and the text of what section reading finds.
 mod lines;
 pub mod preamble;
-mod text;
+pub mod text;
 
 use answers::Answer;
 use doorquill::doorquill_read_sections;

@@ -13,7 +13,7 @@ fn least(a: usize, b: usize) -> usize
 }
 
 // Writes what fits of `bytes`, and says where the text then ends.
-pub(crate) fn put(text: &mut [u8], at: usize, bytes: &[u8]) -> usize
+pub fn put(text: &mut [u8], at: usize, bytes: &[u8]) -> usize
     ensures { λ r. ⌜ Adds (now (text .entry)) at (now (bytes .entry)) (now (text .exit)) r ⌝ }
 {
     if text.len() <= at {
@@ -24,7 +24,7 @@ pub(crate) fn put(text: &mut [u8], at: usize, bytes: &[u8]) -> usize
     at + n
 }
 
-pub(crate) fn put_decimal(text: &mut [u8], at: usize, number: u64) -> usize
+pub fn put_decimal(text: &mut [u8], at: usize, number: u64) -> usize
     ensures { λ r. ⌜ Adds (now (text .entry)) at (decimal number) (now (text .exit)) r ⌝ }
 {
     let mut digits = [0u8; 20];
@@ -47,7 +47,7 @@ fn put_byte(text: &mut [u8], at: usize, byte: u8) -> usize
     put(text, at, &pair)
 }
 
-pub(crate) fn put_hex(text: &mut [u8], at: usize, bytes: &[u8]) -> usize
+pub fn put_hex(text: &mut [u8], at: usize, bytes: &[u8]) -> usize
     ensures { λ r. ⌜ Adds (now (text .entry)) at (hex (now (bytes .entry))) (now (text .exit)) r ⌝ }
 {
     let mut end = at;

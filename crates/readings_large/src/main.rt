@@ -5,8 +5,8 @@ mod text;
 
 use answers::Answer;
 use doorquill::doorquill_read_sections;
-use rooms::first_bytes;
-use rooms::first_numbers;
+use held::parts::first_bytes;
+use held::parts::first_numbers;
 use rooms::is_left;
 use text::show;
 

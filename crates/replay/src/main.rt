@@ -5,6 +5,7 @@ mod tally;
 mod text;
 
 use case::Found;
+use held::parts::first_bytes;
 use libc::STDIN_FILENO;
 
 enum Turn {
@@ -65,13 +66,6 @@ fn fill(frame: &mut [u8], n: usize) -> bool {
         return false;
     }
     io::read_full(STDIN_FILENO, &mut frame[..n]) == n
-}
-
-fn first_bytes(bytes: &[u8], n: usize) -> &[u8] {
-    if n <= bytes.len() {
-        return &bytes[..n];
-    }
-    bytes
 }
 
 fn next_frame(frame: &mut [u8], counts: &mut [u64]) -> Turn {

@@ -1,10 +1,10 @@
 // Tables of a few records. A signal is three bytes (kind, reference, vector number), a vector four (min, max, state, reference); 255 stands for the
 // largest number.
 use crate::rows::bytes;
-use crate::rows::first_bytes;
-use crate::rows::first_numbers;
 use crate::rows::numbers;
 use crate::text::show;
+use held::parts::first_bytes;
+use held::parts::first_numbers;
 
 // No table, and lent buffers of these lengths.
 fn lent(label: &[u8], input: usize, events: usize, values: usize, room: usize, list: usize) {

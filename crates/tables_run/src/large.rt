@@ -1,7 +1,7 @@
 // Tables at their limits.
-use crate::rows::first_bytes;
-use crate::rows::first_numbers;
 use crate::text::show;
+use held::parts::first_bytes;
+use held::parts::first_numbers;
 
 // Signals alone, and no working room.
 fn alone(label: &[u8], kinds: &[u8], refs: &[u32], vecs: &[u32], n: usize) {

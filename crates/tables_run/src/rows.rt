@@ -36,17 +36,3 @@ pub(crate) fn numbers(rows: &[u8], at: usize, step: usize) -> [u32; 9]
     }
     column
 }
-
-pub(crate) fn first_bytes(column: &[u8], n: usize) -> &[u8] {
-    if n <= column.len() {
-        return &column[..n];
-    }
-    column
-}
-
-pub(crate) fn first_numbers(column: &[u32], n: usize) -> &[u32] {
-    if n <= column.len() {
-        return &column[..n];
-    }
-    column
-}

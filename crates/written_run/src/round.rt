@@ -4,6 +4,7 @@ use crate::text::line;
 use crate::text::show;
 use answers::Answer;
 use held::holds;
+use held::parts::first_bytes;
 use libc::STDIN_FILENO;
 ghost use Prim.Native.Nat.{_≤_};
 
@@ -89,13 +90,6 @@ fn changes(s: &[u8], events: &mut [u8], values: &mut [u8]) -> Answer {
         &mut room,
         &mut list,
     )
-}
-
-fn first_bytes(bytes: &[u8], n: usize) -> &[u8] {
-    if n <= bytes.len() {
-        return &bytes[..n];
-    }
-    bytes
 }
 
 // Whether what is written anew is `w`.

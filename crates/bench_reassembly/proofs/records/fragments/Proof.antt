@@ -1,27 +1,37 @@
--- `bench_reassembly::records::fragments` is safe: so many records are left, at most 65,536. Assumes nothing.
+-- `bench_reassembly::records::fragments` is safe and ends: what is left of the records grows less. Assumes nothing.
 use Prim.Native.Nat.{_-_, _≤_}
 use lib.ListN.{length}
 use borrow.Author.Needs.{needs}
+use Rattle.held.specs.Parts.{rest-long}
 use Rattle.bench_reassembly.proofs.records.fragments.Statement.{statement}
 use Rattle.bench_reassembly.proofs.records.fragments.Tie as tie
 
 abbrev Inv-loop : tie.InvT-loop
-Inv-loop out at₀ left₀ at left = left ≤ 65536
+Inv-loop out at₀ at = at ≤ length out
 
 abbrev μ-loop : tie.MeasureT-loop
-μ-loop out at₀ left₀ at left = left
+μ-loop out at₀ at = length out - at
 
 loop-holds : tie.Need-loop-holds Inv-loop μ-loop
 loop-holds c = search needs
 
+sub-loop : tie.Need-sub-loop Inv-loop μ-loop
+sub-loop c = search needs
+
+rest-requires : tie.Need-rest-requires Inv-loop μ-loop
+rest-requires c κs = search needs
+
+one-requires : tie.Need-one-requires Inv-loop μ-loop
+one-requires c κs = search (rest-long, needs)
+
+sub-if1 : tie.Need-sub-if1 Inv-loop μ-loop
+sub-if1 c = search needs
+
 returns : tie.Need-returns Inv-loop μ-loop
 returns c = search needs
 
-one-requires : tie.Need-one-requires Inv-loop μ-loop
-one-requires c κs = search needs
-
-sub-left : tie.Need-sub-left Inv-loop μ-loop
-sub-left c = search needs
+add-at : tie.Need-add-at Inv-loop μ-loop
+add-at c = search needs
 
 loop-less : tie.Need-loop-less Inv-loop μ-loop
 loop-less c = search needs
@@ -39,9 +49,12 @@ fragments-spec =
     Inv-loop
     μ-loop
     loop-holds
-    returns
+    sub-loop
+    rest-requires
     one-requires
-    sub-left
+    sub-if1
+    returns
+    add-at
     loop-less
     loop-again
     returns-2)
