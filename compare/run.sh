@@ -69,8 +69,9 @@ archive=$root/target/staticlib/libdoorquill.a
 if [ -z "${PORT:-}" ]; then
     if command -v rt > /dev/null && [ -d "$root/crates/doorquill" ]; then
         (cd "$root" && rt staticlib doorquill) > "$OUT/staticlib.log" 2>&1 || {
-            echo "compare: the archive of the port was not made (see $OUT/staticlib.log)"
-            rm -f "$archive"
+            echo "compare: the archive of the port was not made:"
+            tail -n 20 "$OUT/staticlib.log"
+            exit 1
         }
     fi
     PORT=none
