@@ -5,7 +5,8 @@ ghost use mathlib.Core.Path.{_≡_};
 ghost use lib.ListN.{getD};
 ghost use Rattle.held.specs.Held.{isHeld, isZero};
 
-fn byte_or_zero(s: &[u8], i: usize) -> u8
+// The byte at a place, and 0 past the end.
+pub fn byte_or_zero(s: &[u8], i: usize) -> u8
     ensures { λ r. ⌜ r ≡ getD (now (s .entry)) i 0 ⌝ }
 {
     if i < s.len() {

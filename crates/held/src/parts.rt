@@ -31,3 +31,13 @@ pub fn rest(bytes: &[u8], n: usize) -> &[u8]
     }
     &bytes[bytes.len()..]
 }
+
+// What comes after the first `n` numbers.
+pub fn rest_numbers(numbers: &[u32], n: usize) -> &[u32]
+    ensures { λ r. ⌜ now r ≡ drop n (now (numbers .entry)) ⌝ }
+{
+    if numbers.len() < n {
+        return &numbers[numbers.len()..];
+    }
+    &numbers[n..]
+}

@@ -1,0 +1,3 @@
+-- The definitions that the promises of `cases` cite.
+-- Assumes nothing.
+pub mod Cases
