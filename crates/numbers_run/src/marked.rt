@@ -8,8 +8,6 @@ ghost use lib.ListN.{length};
 ghost use Rattle.slices.specs.Splice.{part};
 ghost use Rattle.numbers.specs.Marks.{same, esn, ecy, eod};
 
-const ALL: [u8; 28] = *b"SNP\0CYC\0DIR\0TAI\0ESN\0ECY\0EOD\0";
-
 // A caller that names a mark has the definition's list.
 fn ends_snapshot(s: &[u8], at: usize) -> bool
     requires { ⌜ at + 4 ≤ length (now s) ⌝ }
@@ -57,41 +55,36 @@ fn which(s: &[u8], at: usize) -> u64
     }
 }
 
-fn show_which(at: usize)
-    requires { ⌜ at ≤ 24 ⌝ }
-{
-    text::say(b" ");
-    text::decimal(which(&ALL, at));
-}
-
-// What stands at every place of all marks in a row.
-pub(crate) fn marks() {
-    text::say(b"marks:");
+// What stands at every place of a row of marks.
+pub(crate) fn marks(label: &[u8], s: &[u8]) {
+    text::say(label);
+    text::say(b":");
     let mut at: usize = 0;
-    while at <= 24 {
-        show_which(at);
+    while 4 <= s.len() - at {
+        text::say(b" ");
+        text::decimal(which(s, at));
         at += 1;
     }
     text::say(b"\n");
 }
 
-// The mark at `at` of all marks, with byte j altered to v.
-fn altered_to(at: usize, j: usize, v: u8) -> u64
-    requires { ⌜ (at ≤ 24) × (j ≤ 3) ⌝ }
+// Whether a mark with byte j altered to v is still one.
+fn altered_to(s: &[u8], j: usize, v: u8) -> u64
+    requires { ⌜ (4 ≤ length (now s)) × (j ≤ 3) ⌝ }
     ensures { λ r. ⌜ r ≤ 1 ⌝ }
 {
-    let mut b = [ALL[at], ALL[at + 1], ALL[at + 2], ALL[at + 3]];
+    let mut b = [s[0], s[1], s[2], s[3]];
     b[j] = v;
     if which(&b, 0) < 7 { 1 } else { 0 }
 }
 
-fn altered_at(at: usize, j: usize) -> u64
-    requires { ⌜ (at ≤ 24) × (j ≤ 3) ⌝ }
+fn altered_at(s: &[u8], j: usize) -> u64
+    requires { ⌜ (4 ≤ length (now s)) × (j ≤ 3) ⌝ }
 {
     let mut known: u64 = 0;
     let mut v: u8 = 0;
     loop {
-        known += altered_to(at, j, v);
+        known += altered_to(s, j, v);
         if v == 255 {
             return known;
         }
@@ -99,25 +92,18 @@ fn altered_at(at: usize, j: usize) -> u64
     }
 }
 
-fn show_altered(at: usize)
-    requires { ⌜ at ≤ 24 ⌝ }
-{
-    text::say(b"altered: ");
-    text::decimal(altered_at(at, 0));
-    text::say(b" ");
-    text::decimal(altered_at(at, 1));
-    text::say(b" ");
-    text::decimal(altered_at(at, 2));
-    text::say(b" ");
-    text::decimal(altered_at(at, 3));
-    text::say(b"\n");
-}
-
 // How many of the 256 values of each byte of a mark leave a mark.
-pub(crate) fn altered() {
-    let mut at: usize = 0;
-    while at <= 24 {
-        show_altered(at);
-        at += 4;
+pub(crate) fn altered(label: &[u8], s: &[u8]) {
+    if s.len() < 4 {
+        return;
     }
+    text::say(label);
+    text::say(b":");
+    let mut j: usize = 0;
+    while j < 4 {
+        text::say(b" ");
+        text::decimal(altered_at(s, j));
+        j += 1;
+    }
+    text::say(b"\n");
 }

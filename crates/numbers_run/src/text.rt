@@ -22,15 +22,3 @@ pub(crate) fn signed(v: u64) {
 pub(crate) fn hex(b: u8) {
     io::print_hex(STDOUT_FILENO, b as u64, 2);
 }
-
-// How many of some vectors came out as a plain formula has them, and how many did not.
-pub(crate) fn tally(name: &[u8], agree: u64, all: u64) {
-    say(name);
-    say(b": agree ");
-    decimal(agree);
-    say(b", differ ");
-    if agree <= all {
-        decimal(all - agree);
-    }
-    say(b"\n");
-}

@@ -1,14 +1,14 @@
--- `numbers_run::marked::altered_at` is safe and ends. Assumes nothing.
-use Prim.Native.Nat.{_-_, _≤_}
+-- `numbers_run::marked::altered_at` is safe and ends: what is left to do grows less. Assumes nothing.
+use Prim.Native.Nat.{_≤_, _-_}
 use borrow.Author.Needs.{needs}
 use Rattle.numbers_run.proofs.marked.altered_at.Statement.{statement}
 use Rattle.numbers_run.proofs.marked.altered_at.Tie as tie
 
 abbrev Inv-loop : tie.InvT-loop
-Inv-loop at j known₀ v₀ known v = (v ≤ 255) × (known ≤ v)
+Inv-loop s j known₀ v₀ known v = (known ≤ v) × (v ≤ 255)
 
 abbrev μ-loop : tie.MeasureT-loop
-μ-loop at j known₀ v₀ known v = 255 - v
+μ-loop s j known₀ v₀ known v = 256 - v
 
 loop-holds : tie.Need-loop-holds Inv-loop μ-loop
 loop-holds c = search needs

@@ -1,26 +1,42 @@
--- `numbers_run::marked::marks` is safe and ends. Assumes nothing.
-use Prim.Native.Nat.{_-_, _≤_}
+-- `numbers_run::marked::marks` is safe and ends: what is left to do grows less. Assumes nothing.
+use Prim.Native.Nat.{_≤_, _-_}
+use lib.ListN.{length}
 use borrow.Author.Needs.{needs}
 use Rattle.numbers_run.proofs.marked.marks.Statement.{statement}
 use Rattle.numbers_run.proofs.marked.marks.Tie as tie
 
 abbrev Inv-loop : tie.InvT-loop
-Inv-loop at₀ t3 at = at ≤ 25
+Inv-loop label s at₀ t5 t6 at = at ≤ length s
 
 abbrev μ-loop : tie.MeasureT-loop
-μ-loop at₀ t3 at = 25 - at
-
-slice-aggregate-say : tie.Need-slice-aggregate-say Inv-loop μ-loop
-slice-aggregate-say c = search needs
+μ-loop label s at₀ t5 t6 at = length s - at
 
 say-requires : tie.Need-say-requires Inv-loop μ-loop
 say-requires c κs = search needs
 
+slice-aggregate-say : tie.Need-slice-aggregate-say Inv-loop μ-loop
+slice-aggregate-say c = search needs
+
+say-requires-2 : tie.Need-say-requires-2 Inv-loop μ-loop
+say-requires-2 c κs = search needs
+
 loop-holds : tie.Need-loop-holds Inv-loop μ-loop
 loop-holds c = search needs
 
-show-which-requires : tie.Need-show-which-requires Inv-loop μ-loop
-show-which-requires c κs = search needs
+sub-loop : tie.Need-sub-loop Inv-loop μ-loop
+sub-loop c = search needs
+
+slice-aggregate-say-2 : tie.Need-slice-aggregate-say-2 Inv-loop μ-loop
+slice-aggregate-say-2 c = search needs
+
+say-requires-3 : tie.Need-say-requires-3 Inv-loop μ-loop
+say-requires-3 c κs = search needs
+
+which-requires : tie.Need-which-requires Inv-loop μ-loop
+which-requires c κs = search needs
+
+decimal-requires : tie.Need-decimal-requires Inv-loop μ-loop
+decimal-requires c κs = search needs
 
 add-at : tie.Need-add-at Inv-loop μ-loop
 add-at c = search needs
@@ -31,11 +47,11 @@ loop-less c = search needs
 loop-again : tie.Need-loop-again Inv-loop μ-loop
 loop-again c = search needs
 
-slice-aggregate-say-2 : tie.Need-slice-aggregate-say-2 Inv-loop μ-loop
-slice-aggregate-say-2 c = search needs
+slice-aggregate-say-3 : tie.Need-slice-aggregate-say-3 Inv-loop μ-loop
+slice-aggregate-say-3 c = search needs
 
-say-requires-2 : tie.Need-say-requires-2 Inv-loop μ-loop
-say-requires-2 c κs = search needs
+say-requires-4 : tie.Need-say-requires-4 Inv-loop μ-loop
+say-requires-4 c κs = search needs
 
 returns : tie.Need-returns Inv-loop μ-loop
 returns c = search needs
@@ -46,13 +62,18 @@ marks-spec =
     (tie.spec
     Inv-loop
     μ-loop
-    slice-aggregate-say
     say-requires
+    slice-aggregate-say
+    say-requires-2
     loop-holds
-    show-which-requires
+    sub-loop
+    slice-aggregate-say-2
+    say-requires-3
+    which-requires
+    decimal-requires
     add-at
     loop-less
     loop-again
-    slice-aggregate-say-2
-    say-requires-2
+    slice-aggregate-say-3
+    say-requires-4
     returns)

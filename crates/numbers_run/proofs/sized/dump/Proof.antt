@@ -1,5 +1,5 @@
--- `numbers_run::sized::dump` is safe and ends. Assumes nothing.
-use Prim.Native.Nat.{_-_, _≤_}
+-- `numbers_run::sized::dump` is safe and ends: what is left to do grows less. Assumes nothing.
+use Prim.Native.Nat.{_≤_, _-_}
 use lib.ListN.{length}
 use borrow.Author.Needs.{needs}
 use Rattle.numbers_run.proofs.sized.dump.Statement.{statement}
