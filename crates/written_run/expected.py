@@ -1,6 +1,6 @@
 #!/usr/bin/env python3
-"""Prints what the program must write, from the rules alone, for the cases in src/cases.rt and the streams in stdin: python3 expected.py > stdout"""
-import re
+"""Prints what the program must write, from the rules alone, for the cases in stdin: python3 expected.py < stdin > stdout"""
+import sys
 
 
 class Refused(Exception):
@@ -220,39 +220,21 @@ def told(label, call, t, big, s, room):
     return out
 
 
-SMALL = ([0, 3, 3, 4], [1, 2, 2, 3], [0, 1, 1, 0], [(2, 3)])
+def numbers(part):
+    return [int(w) for w in part.split()]
 
 
-def arguments(name, words, consts):
-    """The tables, the flag, the input and the room of a call."""
-    def data(word):
-        return consts[word[1:]] if word.startswith('&') else eval(word)
-    if name in ('write', 'back'):
-        return SMALL, False, data(words[0]), int(words[1])
-    if name.endswith('_lone'):
-        return ([int(words[0])], [1], [0], []), words[1] == 'true', data(words[2]), int(words[3])
-    table = ([int(words[0])], eval(words[2][1:]), [int(words[1])], [(1, int(words[3]))])
-    return table, False, b'' if name == 'write_table' else b'TAI\0' + bytes(8), 12
-
-
-text = open('src/cases.rt', encoding='utf-8').read()
-consts = {n: eval(v) for n, v in re.findall(r'const (\w+): [^=]*=\s*\*\s*(b"[^"]*");', text)}
-call = r'\b((?:write|back)(?:_lone|_table)?)\(\s*(b"[^"]*"),((?:[^()"]|"[^"]*")*)\);'
-for name, label, rest in re.findall(call, text):
-    words = [w.strip() for w in re.findall(r'b"[^"]*"|&\[[^\]]*\]|[^,\s]+', rest)]
-    t, big, s, room = arguments(name, words, consts)
-    told(eval(label).decode(), write if name.startswith('write') else back, t, big, s, room)
-
-KINDS = [0, 2, 1, 1, 4, 3, 3, 3, 5, 6, 0, 5]
-ROUND = (KINDS, [1, 2, 3, 3, 4, 5, 5, 5, 6, 7, 8, 9], [0, 0, 1, 1, 0, 2, 2, 2, 0, 0, 0, 0], [(3, 4), (6, 8)])
-stored = open('stdin', 'rb').read()
-at = 0
-while int.from_bytes(stored[at:at + 2], 'big'):
-    n = int.from_bytes(stored[at:at + 2], 'big')
-    s = stored[at + 2:at + 2 + n]
-    at += 2 + n
+for line in sys.stdin:
+    if line.startswith('#'):
+        continue
+    name, label, kinds, refs, vecs, mins, maxs, _, _, flag, room, data = line.rstrip('\n').split('|')
+    t = (list(bytes.fromhex(kinds)), numbers(refs), numbers(vecs), list(zip(numbers(mins), numbers(maxs))))
+    s, room = bytes.fromhex(data), int(room)
+    if name != 'round':
+        told(label, {'write': write, 'back': back}[name], t, flag == 'big', s, room)
+        continue
     for label, big in (('little', False), ('big', True)):
-        w = told(label, write, ROUND, big, s, 2048)
+        w = told(label, write, t, big, s, room)
         if w:
-            assert back(ROUND, big, w, 2048)[1] == s
+            assert back(t, big, w, room)[1] == s
             print('  comes back, with the same events')

@@ -1,9 +1,9 @@
 #!/usr/bin/env python3
-"""Prints the stored streams, over the tables of src/round.rt: python3 streams.py > stdin"""
+"""Prints the lines of the stored streams, which stand last in stdin: python3 streams.py"""
 import random
-import sys
 
 KINDS = [0, 2, 1, 1, 4, 3, 3, 3, 5, 6, 0, 5]
+TABLES = bytes(KINDS).hex() + '|1 2 3 3 4 5 5 5 6 7 8 9|0 0 1 1 0 2 2 2 0 0 0 0|3 6|4 8|0001|3 5'
 rng = random.Random(7)
 
 
@@ -32,7 +32,7 @@ def stream(steps, fault):
     return out
 
 
+print('# signals of every kind; ids 3 and 4 are a nine-state vector, 6 to 8 a two-state one')
 for k in range(160):
     s = stream(rng.choice([1, 2, 3, 5]), rng.choice([0, 0, 0, 0, 22, 23]))
-    sys.stdout.buffer.write(len(s).to_bytes(2, 'big') + s)
-sys.stdout.buffer.write(b'\0\0')
+    print(f'round||{TABLES}||2048|{s.hex()}')
