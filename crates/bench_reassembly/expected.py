@@ -1,5 +1,5 @@
 #!/usr/bin/env python3
-"""Prints what the program must write, from the stored listing of the same input: python3 expected.py < ../listing_reassembly/stdout > stdout"""
+"""Prints what the program must write, from the stored listing of the same input, the last of ../listings: python3 expected.py < ../listings/stdout > stdout"""
 import sys
 
 SESSION, STROBE, CLOSE = '3', '4', '5'
@@ -14,7 +14,9 @@ def end_step():
 
 
 shown, last, time, skipping = {SESSION: '0', STROBE: '0', CLOSE: '0'}, 0, None, False
-for line in sys.stdin:
+listing = sys.stdin.read().splitlines()
+begin = max((i + 1 for i, line in enumerate(listing[:-1]) if line.startswith('done')), default=0)
+for line in listing[begin:]:
     word, *rest = line.split()
     if word == 'time':
         u = int(rest[0])
