@@ -1,4 +1,7 @@
-// Prints the listings of stored inputs, one after another. A line of standard input is one of them in hex; `#` begins a remark.
+// Section reading on inputs of some size: those of the readings that are too large to be stored, and the listings of real files, each a line of standard input
+// in hex; `#` begins a remark.
+mod large;
+
 use cases::after;
 use cases::before;
 use cases::unhex;
@@ -37,6 +40,7 @@ fn all(text: &[u8]) {
 }
 
 fn main() {
+    large::all();
     let mut text = io::large_buffer();
     let n = io::read_full(STDIN_FILENO, &mut text);
     all(&text[..n]);
