@@ -21,6 +21,7 @@ use crate::frame::VALUES;
 use crate::frame::VEC_REFS;
 use crate::frame::VECS;
 use crate::frame::bytes_of;
+use crate::frame::least;
 use crate::frame::load;
 use crate::frame::number;
 use crate::frame::words_of;
@@ -170,7 +171,8 @@ fn held(
     )
 }
 
-fn with_working_room(
+// The same over larger rooms.
+fn with_rooms(
     frame: &[u8],
     at: u64,
     words: &[u32],
@@ -179,57 +181,23 @@ fn with_working_room(
     room: &mut [u8],
     list: &mut [u32],
 ) -> Found {
-    let bytes = number(frame, BYTE_ROOM);
-    if room.len() < bytes {
-        return Found::Large;
-    }
-    let numbers = number(frame, NUMBER_ROOM);
-    if list.len() < numbers {
-        return Found::Large;
-    }
+    let e = least(number(frame, EVENT_ROOM), events.len());
+    let v = least(number(frame, VALUE_ROOM), values.len());
+    let b = least(number(frame, BYTE_ROOM), room.len());
+    let n = least(number(frame, NUMBER_ROOM), list.len());
     held(
-        frame,
-        at,
-        words,
-        events,
-        values,
-        &mut room[..bytes],
-        &mut list[..numbers],
-    )
-}
-
-fn with_rooms(
-    frame: &[u8],
-    at: u64,
-    words: &mut [u32],
-    events: &mut [u8],
-    values: &mut [u8],
-    room: &mut [u8],
-    list: &mut [u32],
-) -> Found {
-    load(frame, words);
-    let e = number(frame, EVENT_ROOM);
-    if events.len() < e {
-        return Found::Large;
-    }
-    let v = number(frame, VALUE_ROOM);
-    if values.len() < v {
-        return Found::Large;
-    }
-    with_working_room(
         frame,
         at,
         words,
         &mut events[..e],
         &mut values[..v],
-        room,
-        list,
+        &mut room[..b],
+        &mut list[..n],
     )
 }
 
-// Every lent buffer is full of garbage, and as large as any case of the list asks for: 140 signals, 10 vectors.
-pub(crate) fn run(frame: &[u8], at: u64) -> Found {
-    let mut words = [0u32; 310];
+// Every lent buffer is full of garbage.
+fn loaded(frame: &[u8], at: u64, words: &[u32]) -> Found {
     let mut events = [0xa5u8; 2048];
     let mut values = [0x5au8; 4096];
     let mut room = [0xc3u8; 128];
@@ -237,10 +205,28 @@ pub(crate) fn run(frame: &[u8], at: u64) -> Found {
     with_rooms(
         frame,
         at,
-        &mut words,
+        words,
         &mut events,
         &mut values,
         &mut room,
         &mut list,
     )
+}
+
+// Whether these buffers are large enough, as they are for any case of the list.
+fn fits(frame: &[u8]) -> bool {
+    (number(frame, EVENT_ROOM) <= 2048)
+        & (number(frame, VALUE_ROOM) <= 4096)
+        & (number(frame, BYTE_ROOM) <= 128)
+        & (number(frame, NUMBER_ROOM) <= 10)
+}
+
+// No case of the list has more than 140 signals and 10 vectors.
+pub(crate) fn run(frame: &[u8], at: u64) -> Found {
+    if !fits(frame) {
+        return Found::Large;
+    }
+    let mut words = [0u32; 310];
+    load(frame, &mut words);
+    loaded(frame, at, &words)
 }

@@ -1,5 +1,9 @@
 // The form of the list, as the comparison program writes it: frames, each a length of 2 bytes and so many bytes, and last an empty one. A frame
 // whose first 2 bytes are 0 is a heading, with a name after them. Any other is a case: 21 numbers of 2 bytes, lists of 4-byte numbers, lists of bytes.
+use held::parts::first_bytes;
+use held::parts::first_numbers;
+use held::parts::rest;
+use held::parts::rest_numbers;
 ghost use Prim.Native.Nat.{_≤_};
 
 pub(crate) const ENTRY: usize = 0;
@@ -134,7 +138,7 @@ fn word(frame: &[u8], at: usize) -> u32 {
     0
 }
 
-fn least(a: usize, b: usize) -> usize
+pub(crate) fn least(a: usize, b: usize) -> usize
     ensures { λ r. ⌜ (r ≤ a) × (r ≤ b) ⌝ }
 {
     if a < b { a } else { b }
@@ -150,43 +154,18 @@ pub(crate) fn load(frame: &[u8], words: &mut [u32]) {
     }
 }
 
-fn cut_words(words: &[u32], at: usize, n: usize) -> &[u32] {
-    if words.len() < n {
-        return &words[..0];
-    }
-    if at <= words.len() - n {
-        let end = at + n;
-        return &words[at..end];
-    }
-    &words[..0]
-}
-
-fn cut_bytes(bytes: &[u8], at: usize, n: usize) -> &[u8] {
-    if bytes.len() < n {
-        return &bytes[..0];
-    }
-    if at <= bytes.len() - n {
-        let end = at + n;
-        return &bytes[at..end];
-    }
-    &bytes[..0]
-}
-
 // A list of numbers, of those that were loaded.
 pub(crate) fn words_of<'a, 'b>(frame: &'a [u8], words: &'b [u32], k: usize) -> &'b [u32] {
-    cut_words(words, sum(frame, REFS, k), number(frame, k))
+    first_numbers(rest_numbers(words, sum(frame, REFS, k)), number(frame, k))
 }
 
 // A list of bytes.
 pub(crate) fn bytes_of(frame: &[u8], k: usize) -> &[u8] {
     let at = HEAD + 4 * count(frame) + sum(frame, KINDS, k);
-    cut_bytes(frame, at, number(frame, k))
+    first_bytes(rest(frame, at), number(frame, k))
 }
 
 // The name in a heading.
 pub(crate) fn name(frame: &[u8]) -> &[u8] {
-    if 2 <= frame.len() {
-        return &frame[2..];
-    }
-    frame
+    rest(frame, 2)
 }
