@@ -1,15 +1,9 @@
 // A case: the length of its label and the label, the three references, the room, how many value bytes, these, and the events.
 use crate::text::show;
+use held::byte_or_zero;
 use held::parts::first_bytes;
 use held::parts::rest;
 ghost use Prim.Native.Nat.{_≤_};
-
-fn byte_at(s: &[u8], i: usize) -> u8 {
-    if i < s.len() {
-        return s[i];
-    }
-    0
-}
 
 fn widen(x: u8) -> usize
     ensures { λ r. ⌜ r ≤ 255 ⌝ }
@@ -24,12 +18,13 @@ fn wide(x: u8) -> u32
 }
 
 pub(crate) fn two(s: &[u8]) -> usize {
-    widen(byte_at(s, 0)) * 256 + widen(byte_at(s, 1))
+    widen(byte_or_zero(s, 0)) * 256 + widen(byte_or_zero(s, 1))
 }
 
 fn four(s: &[u8]) -> u32 {
-    ((wide(byte_at(s, 0)) * 256 + wide(byte_at(s, 1))) * 256 + wide(byte_at(s, 2))) * 256
-        + wide(byte_at(s, 3))
+    ((wide(byte_or_zero(s, 0)) * 256 + wide(byte_or_zero(s, 1))) * 256 + wide(byte_or_zero(s, 2)))
+        * 256
+        + wide(byte_or_zero(s, 3))
 }
 
 fn shown(
@@ -86,7 +81,7 @@ fn called(label: &[u8], head: &[u8], data: &[u8]) {
 }
 
 pub(crate) fn run(frame: &[u8]) {
-    let n = widen(byte_at(frame, 0));
+    let n = widen(byte_or_zero(frame, 0));
     let body = rest(frame, 1 + n);
     called(first_bytes(rest(frame, 1), n), body, rest(body, 16));
 }
