@@ -1,4 +1,4 @@
 pub mod Outcome
-pub mod Reading
+pub mod Report
 pub mod Kept
 pub mod Filled

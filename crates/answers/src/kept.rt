@@ -1,8 +1,8 @@
 // How a call with one output ends: the time rule, whose output is what it keeps, and the requests.
 use crate::Answer;
-use crate::ends::clear_past;
-use crate::ends::refused;
-use crate::ends::widen;
+use crate::clear_past;
+use crate::refused;
+use crate::widen;
 use tables::within_limit;
 use written::Written;
 ghost use mathlib.Core.Path.{_≡_};

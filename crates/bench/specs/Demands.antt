@@ -15,7 +15,7 @@ use Rattle.tables.specs.Checks.{withinLimit}
 use Rattle.written.specs.Ended.{Ended, wrote}
 use Rattle.written.specs.Ended as ended
 use Rattle.step_ends.specs.Steps.{Steps, unseen, stepEnds, count}
-use Rattle.fragments.specs.Places.{empty}
+use Rattle.sessions.specs.Places.{empty}
 use Rattle.fragments.specs.Output.{Out, recordsIn}
 use Rattle.fragments.specs.Counting.{countFragments}
 use Rattle.fragments.specs.Theorems.{Accounts, Why, Closes, Good, benches, Every}

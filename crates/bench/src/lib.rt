@@ -3,7 +3,7 @@ use answers::Answer;
 use answers::kept::end_filled;
 use answers::kept::refuse_kept;
 use answers::kept::within_limits;
-use fragments::count_fragments;
+use fragment_counting::count_fragments;
 use step_ends::Names;
 ghost use mathlib.Core.Path.{_≡_};
 ghost use lib.ListN.{length};

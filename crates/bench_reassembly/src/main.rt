@@ -8,8 +8,8 @@ use held::parts::first_bytes;
 use held::parts::first_numbers;
 use held::parts::rest;
 use libc::STDIN_FILENO;
-use lines::preamble::Opened;
-use lines::preamble::read_preamble;
+use preamble::Opened;
+use preamble::read_preamble;
 use records::fragments;
 use text::refused;
 

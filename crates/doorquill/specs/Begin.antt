@@ -20,9 +20,9 @@ use Rattle.tables.specs.declared.Check.{Check}
 use Rattle.tables.specs.declared.Check.the-variants.{Passed, Refused}
 use Rattle.rules.specs.Gather.{begin}
 use Rattle.records.specs.Out.{empty}
-use Rattle.vecbuffer.specs.Numbers.{Shapes, filled}
+use Rattle.vecstarts.specs.Numbers.{Shapes, filled}
 use Rattle.gather.specs.Run.{Scan, runAll, gathers}
-use Rattle.signals.specs.Sections.{scanSections}
+use Rattle.section_parts.specs.Sections.{scanSections}
 use Rattle.changes.specs.Changes.{scanChanges}
 use Rattle.gather.specs.Memory.{Mem, memOf, Holds}
 use Rattle.gather.specs.Follows.{Ends, Runs, Asks}
@@ -32,7 +32,7 @@ use Rattle.gather.specs.declared.Part.{Part}
 use Rattle.gather.specs.declared.Part.the-variants as part
 use Rattle.answers.specs.Outcome.{Outcome, refused, Left, Lent, leaves}
 use Rattle.doorquill.specs.Entries.{outcome, checked, reads, readSections, readChanges}
-use Rattle.answers.specs.Reading.{lentOf, Used, endedAt, Within, Finish, Ended}
+use Rattle.reading_ends.specs.Reading.{lentOf, Used, endedAt, Within, Finish, Ended}
 
 -- ---- zeros, and a part of them lent
 

@@ -5,7 +5,7 @@ use mathlib.Core.Bool.{Bool}
 use mathlib.Core.List.{List}
 use lib.ListN.{length}
 use Rattle.tables.specs.Lists.{Lists}
-use Rattle.sections_writer.specs.Checked.{checksWithoutRoom}
+use Rattle.checks.specs.Checked.{checksWithoutRoom}
 use Rattle.sections_writer.specs.Writer as writer
 use Rattle.read_back.specs.ReadBack as back
 use Rattle.answers.specs.Outcome.{LeftKept, leavesKept}

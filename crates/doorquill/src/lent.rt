@@ -2,8 +2,11 @@
 use crate::Vector;
 use crate::doorquill_read_sections;
 use answers::Answer;
-use answers::ends::refuse;
-use slices::clear_numbers;
+use flat_runs::greatest_ids;
+use flat_runs::least_ids;
+use flat_runs::references;
+use reading_ends::clear_all;
+use reading_ends::refuse;
 use tables::Check;
 use tables::check_limits;
 use tables::unless;
@@ -14,7 +17,7 @@ ghost use lib.ListN.{length, replicate};
 ghost use Rattle.slices.specs.Splice.{splice, part};
 ghost use Rattle.tables.specs.Lists.{lists};
 ghost use Rattle.doorquill.specs.Entries.{readSections};
-ghost use Rattle.answers.specs.Reading.{leftOf, lentOf};
+ghost use Rattle.reading_ends.specs.Reading.{leftOf, lentOf};
 ghost use Rattle.doorquill.specs.Lent.Flat.{roomFor, Unpacked, lows, flatTable, checkFlat, checksFlat, readPassed, refusedLent, readFlat, leftLent};
 
 // How many of `v` records are made flat: none where there are too many, or where `flat` has no room for them.
@@ -101,14 +104,6 @@ fn check_lent(
     }
 }
 
-// A run of `n` numbers.
-fn run_of(flat: &[u32], at: usize, n: usize) -> &[u32]
-    requires { ⌜ at + n ≤ length (now flat) ⌝ }
-    ensures { λ r. ⌜ now r ≡ part (now (flat .entry)) at n ⌝ }
-{
-    &flat[at..at + n]
-}
-
 // The first `n` bytes.
 fn first_of(states: &[u8], n: usize) -> &[u8]
     requires { ⌜ n ≤ length (now states) ⌝ }
@@ -137,7 +132,7 @@ fn read_rest(
     requires { ⌜ (2 * v + v ≤ length (now flat)) × (v ≤ length (now states)) ⌝ }
     ensures { λ r. ⌜ leftOf r (now (events .exit)) (now (values .exit)) (now (room .exit)) (now (list .exit)) ≡ readSections (lists (now (kinds .entry)) (now (refs .entry)) (now (vecs .entry)) (now (mins .entry)) (now (maxs .entry)) (part (now (states .entry)) 0 v) (part (now (flat .entry)) (2 * v) v)) «big_endian» (now (input .entry)) (lentOf (now (events .entry)) (now (values .entry)) (now (room .entry)) (now (list .entry))) ⌝ }
 {
-    let vec_refs = run_of(flat, 2 * v, v);
+    let vec_refs = references(flat, v);
     let bytes = first_of(states, v);
     doorquill_read_sections(
         kinds,
@@ -174,8 +169,8 @@ fn read_runs(
     requires { ⌜ (2 * v + v ≤ length (now flat)) × (v ≤ length (now states)) ⌝ }
     ensures { λ r. ⌜ leftOf r (now (events .exit)) (now (values .exit)) (now (room .exit)) (now (list .exit)) ≡ readSections (lists (now (kinds .entry)) (now (refs .entry)) (now (vecs .entry)) (part (now (flat .entry)) 0 v) (part (now (flat .entry)) v v) (part (now (states .entry)) 0 v) (part (now (flat .entry)) (2 * v) v)) «big_endian» (now (input .entry)) (lentOf (now (events .entry)) (now (values .entry)) (now (room .entry)) (now (list .entry))) ⌝ }
 {
-    let mins = run_of(flat, 0, v);
-    let maxs = run_of(flat, v, v);
+    let mins = least_ids(flat, v);
+    let maxs = greatest_ids(flat, v);
     read_rest(
         kinds,
         refs,
@@ -229,13 +224,6 @@ fn read_table(
     )
 }
 
-// All of `flat` becomes zero.
-fn zero_flat(flat: &mut [u32])
-    ensures { λ _. ⌜ now (flat .exit) ≡ replicate (length (now (flat .entry))) 0 ⌝ }
-{
-    clear_numbers(flat, 0, flat.len());
-}
-
 // A reading that passed the checks: `flat` becomes zero after it.
 fn read_passed(
     kinds: &[u8],
@@ -267,7 +255,7 @@ fn read_passed(
         room,
         list,
     );
-    zero_flat(flat);
+    clear_all(flat);
     a
 }
 
@@ -283,7 +271,7 @@ fn refuse_lent(
 ) -> Answer
     ensures { λ r. ⌜ leftLent r (now (flat .exit)) (now (events .exit)) (now (values .exit)) (now (room .exit)) (now (list .exit)) ≡ refusedLent (length (now (flat .entry))) (lentOf (now (events .entry)) (now (values .entry)) (now (room .entry)) (now (list .entry))) number place ⌝ }
 {
-    zero_flat(flat);
+    clear_all(flat);
     refuse(events, values, room, list, number, place)
 }
 

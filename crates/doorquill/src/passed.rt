@@ -1,13 +1,13 @@
 // The two readings, over tables that passed their checks.
 use answers::Answer;
-use answers::ends::finish;
-use answers::ends::start;
-use changes::read_changes;
+use change_reading::read_changes;
+use checks::total_bytes;
 use gather::Gathered;
 use gather::Part;
+use reading_ends::finish;
+use reading_ends::start;
 use records::Counts;
 use signals::read_signals;
-use tables::total_bytes;
 ghost use mathlib.Core.Path.{_≡_};
 ghost use lib.ListN.{length};
 ghost use Rattle.tables.specs.Lists.{lists};
@@ -16,11 +16,11 @@ ghost use Rattle.tables.specs.Checks.{checks};
 ghost use Rattle.tables.specs.declared.Check.the-variants.{Passed};
 ghost use Rattle.gather.specs.Run.{runAll};
 ghost use Rattle.gather.specs.Begin.{roomsOf};
-ghost use Rattle.signals.specs.Sections.{scanSections};
+ghost use Rattle.section_parts.specs.Sections.{scanSections};
 ghost use Rattle.changes.specs.Changes.{scanChanges};
 ghost use Rattle.answers.specs.Outcome.{leaves};
 ghost use Rattle.doorquill.specs.Entries.{outcome};
-ghost use Rattle.answers.specs.Reading.{leftOf, lentOf, Ended};
+ghost use Rattle.reading_ends.specs.Reading.{leftOf, lentOf, Ended};
 
 // The acts of all sections, over tables that passed their checks.
 fn sections_part(

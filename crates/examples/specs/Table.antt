@@ -4,9 +4,9 @@ use mathlib.Core.Path.{_≡_, refl}
 use Prim.Native.Nat.{_^_, _-_}
 use mathlib.Core.List.{[], _∷_, _++_}
 use lib.ListN.{replicate}
-use Rattle.numbers.specs.Leb128.{value, goesOn, signedValue, signedBits, lebOf, unsignedTenth, signedTenth, readUnsigned}
-use Rattle.numbers.specs.Leb128.Examples.{Spells, SpellsSigned, minus}
-use Rattle.numbers.specs.declared.leb128.Leb.the-variants.{Large}
+use Rattle.leb128.specs.Leb128.{value, goesOn, signedValue, signedBits, lebOf, unsignedTenth, signedTenth, readUnsigned}
+use Rattle.leb128.specs.Leb128.Examples.{Spells, SpellsSigned, minus}
+use Rattle.leb128.specs.declared.Leb.the-variants.{Large}
 use Rattle.states.specs.declared.States.the-variants.{Nine}
 use Rattle.states.specs.Kind.{bytesRequired}
 use Rattle.states.specs.Packed.{digits, bytes, packed}

@@ -9,8 +9,8 @@ use Rattle.written.specs.Ended as ended
 use Rattle.step_ends.specs.declared.Names.{Names}
 use Rattle.step_ends.specs.declared.Watch.{Watch}
 use Rattle.step_ends.specs.Steps.{Steps, step, done, refused, unseen, stepEnds, rose}
-use Rattle.fragments.specs.declared.Bench.{Bench}
-use Rattle.fragments.specs.Places.{placeOf, placeFor, counted, dropped, empty}
+use Rattle.sessions.specs.declared.Bench.{Bench}
+use Rattle.sessions.specs.Places.{placeOf, placeFor, counted, dropped, empty}
 use Rattle.fragments.specs.Output.{Out, fragment, closed, outBytes, bytesOf, heldOf}
 pub mod Laws
 pub mod Step

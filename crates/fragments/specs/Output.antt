@@ -7,8 +7,8 @@ use lib.ListN.{length, getD, drop}
 use lib.Dec.{eqb}
 use Rattle.slices.specs.Splice.{part}
 use Rattle.numbers.specs.Fixed.{big, bigBytes}
-use Rattle.fragments.specs.declared.Bench.{Bench}
-use Rattle.fragments.specs.Places.{isFree}
+use Rattle.sessions.specs.declared.Bench.{Bench}
+use Rattle.sessions.specs.Places.{isFree}
 pub mod Laws
 pub mod Code
 pub mod Back

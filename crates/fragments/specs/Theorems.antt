@@ -9,9 +9,9 @@ use lib.ListN.{length}
 use Rattle.written.specs.Ended as ended
 use Rattle.step_ends.specs.declared.Watch.{Watch}
 use Rattle.step_ends.specs.Steps.{Steps, step, done, refused, unseen, rose, rises, count}
-use Rattle.fragments.specs.declared.Bench.{Bench}
-use Rattle.fragments.specs.Places.Laws.{Whole, Distinct}
-use Rattle.fragments.specs.Places.Laws.Tally.{onto, without}
+use Rattle.sessions.specs.declared.Bench.{Bench}
+use Rattle.sessions.specs.Places.Laws.{Whole, Distinct}
+use Rattle.sessions.specs.Places.Laws.Tally.{onto, without}
 use Rattle.fragments.specs.Output.{Out, fragment, closed, held, bytesOf, fragmentsOf, countsIn}
 use Rattle.fragments.specs.Counting.{Does, went, stops, stepEnd}
 pub mod Proofs

@@ -22,8 +22,8 @@ use Rattle.rules.specs.Gather as rules
 use Rattle.rules.specs.Gather.{State, begin}
 use Rattle.records.specs.Out.{Rooms, Out, empty}
 use Rattle.records.specs.Out.Laws.{Written}
-use Rattle.vecbuffer.specs.Numbers.{layoutFrom, Shapes, filled}
-use Rattle.vecbuffer.specs.Numbers.Laws.{layout-is}
+use Rattle.vecstarts.specs.Numbers.{layoutFrom, Shapes, filled}
+use Rattle.vecstarts.specs.Numbers.Laws.{layout-is}
 use Rattle.vecbuffer.specs.Stands.Vectors.{getD-clear}
 use Rattle.vecbuffer.specs.Stands.Begin.{stands-first}
 use Rattle.gather.specs.Run.{gathers}

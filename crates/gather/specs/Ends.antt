@@ -15,9 +15,9 @@ use Rattle.records.specs.declared.Counts.{Counts}
 use Rattle.records.specs.Event.{Event}
 use Rattle.records.specs.Out.{Rooms, Out, appendAll}
 use Rattle.records.specs.Out.Laws.{all-append, all-none}
-use Rattle.vecbuffer.specs.Info.{withMark, Inside}
-use Rattle.vecbuffer.specs.Info as info
-use Rattle.vecbuffer.specs.Numbers.{listedIn}
+use Rattle.vecmarks.specs.Info.{withMark, Inside}
+use Rattle.vecmarks.specs.Info as info
+use Rattle.vecstarts.specs.Numbers.{listedIn}
 use Rattle.vecbuffer.specs.Changes.Laws.{after-mark}
 use Rattle.vecbuffer.specs.Stands.Order.{none-listed}
 use Rattle.vecbuffer.specs.Stands.Laws.{asks-flags, asks-known, has-is, listed-at, listed-known, asks-listed, stands-unlisted, stands-over}

@@ -14,7 +14,7 @@ use Rattle.rules.specs.Vector.{Write, Vec, all, any, clashes, actsEarly}
 use Rattle.rules.specs.Gather.{State}
 use Rattle.records.specs.Event.{Event, value}
 use Rattle.records.specs.Out.{Rooms, Out, appendAll}
-use Rattle.vecbuffer.specs.Info.{infoAt}
+use Rattle.vecmarks.specs.Info.{infoAt}
 use Rattle.vecbuffer.specs.Stands.{flagsAt, storing, clearing}
 use Rattle.gather.specs.Memory.{Mem, memOf, HoldsAt}
 use Rattle.gather.specs.declared.Gathered.{Gathered}

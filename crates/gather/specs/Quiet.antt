@@ -13,7 +13,7 @@ use Rattle.tables.specs.Layout.{layoutOf}
 use Rattle.rules.specs.Vector.{Write, all, actsEarly, stored}
 use Rattle.rules.specs.Gather.{State, with, width, write}
 use Rattle.records.specs.Out.{Rooms, Out, appendAll}
-use Rattle.vecbuffer.specs.Info.{infoAt, isMarked, isSecond, isQuiet, withBit}
+use Rattle.vecmarks.specs.Info.{infoAt, isMarked, isSecond, isQuiet, withBit}
 use Rattle.vecbuffer.specs.Stands.{flagsAt, storing}
 use Rattle.vecbuffer.specs.Stands.Vectors.{stored-marks}
 use Rattle.vecbuffer.specs.Stands.Laws.{second-is, stands-quiet, stays-quiet, quiet-bit}

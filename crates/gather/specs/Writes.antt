@@ -28,10 +28,10 @@ use Rattle.records.specs.declared.Counts.{Counts}
 use Rattle.records.specs.declared.Put.{Put}
 use Rattle.records.specs.Event.{value, real}
 use Rattle.records.specs.Out.Laws.{EventsRoom, ValuesRoom, Appends}
-use Rattle.vecbuffer.specs.declared.VecBufferInfo.{VecBufferInfo}
-use Rattle.vecbuffer.specs.Info.{infoAt}
-use Rattle.vecbuffer.specs.Numbers.{layoutFrom, Shapes, Started}
-use Rattle.vecbuffer.specs.Numbers.Laws.{layout-is}
+use Rattle.vecmarks.specs.declared.VecBufferInfo.{VecBufferInfo}
+use Rattle.vecmarks.specs.Info.{infoAt}
+use Rattle.vecstarts.specs.Numbers.{layoutFrom, Shapes, Started}
+use Rattle.vecstarts.specs.Numbers.Laws.{layout-is}
 use Rattle.gather.specs.Run.{gathers, alone}
 use Rattle.gather.specs.Memory.{memOf, Tabled, HoldsAt}
 use Rattle.gather.specs.Follows.{Acts, Asks}

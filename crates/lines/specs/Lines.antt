@@ -13,7 +13,7 @@ use Rattle.records.specs.declared.Record.the-variants.{Time, Value, Real}
 use Rattle.records.specs.declared.Next.{Next}
 use Rattle.records.specs.declared.Next.the-variants.{Event, End, Bad}
 use Rattle.records.specs.Stream.{nextEvent}
-use Rattle.lines.specs.Text.{decimal, hex}
+use Rattle.plain_text.specs.Text.{decimal, hex}
 pub mod Code
 
 abbrev pub newline : List ℕ

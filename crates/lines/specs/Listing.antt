@@ -10,7 +10,7 @@ use Rattle.answers.specs.declared.Answer.{Answer}
 use Rattle.answers.specs.Outcome.{Lent}
 use Rattle.doorquill.specs.Entries.{readSections}
 use Rattle.lines.specs.Lines.{doneWord, refusedWord, pairLine, eventLines}
-use Rattle.lines.specs.Preamble.{Opening, opens, refused, preamble}
+use Rattle.preamble.specs.Preamble.{Opening, opens, refused, preamble}
 pub mod Code
 pub mod Length
 pub mod Shown

@@ -7,10 +7,10 @@ use borrow.Author.Tests.{lt-leb}
 use lib.ListN.{length}
 use Rattle.numbers.specs.Fixed.{bigBytes}
 use Rattle.doorquill.specs.Rows.Opened.{opened}
-use Rattle.lines.specs.Text as text
+use Rattle.plain_text.specs.Text as text
 use Rattle.lines.specs.Lines as lines
 use Rattle.lines.specs.Lines.{refusedWord, doneWord, realWord, timeLine, hexLine, pairLine}
-use Rattle.lines.specs.Preamble as preambles
+use Rattle.preamble.specs.Preamble as preambles
 use Rattle.lines.specs.Listing as listings
 use Rattle.lines.specs.Listing.{listing}
 

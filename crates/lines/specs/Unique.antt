@@ -3,7 +3,7 @@
 use mathlib.Core.Path.{_≡_, sym, _∙_}
 use Prim.Native.Nat.{ℕ}
 use mathlib.Core.List.{List}
-use Rattle.lines.specs.Text.{Holds, Prints}
+use Rattle.plain_text.specs.Text.{Holds, Prints}
 
 module _ {room l a b : List ℕ} {m n : ℕ} where
   pub list-unique : Holds room l a m → Holds room l b n → (a ≡ b) × (m ≡ n)

@@ -1,7 +1,5 @@
 // The listing: its preamble, and the text of what section reading finds.
 mod lines;
-pub mod preamble;
-pub mod text;
 
 use answers::Answer;
 use doorquill::doorquill_read_sections;
@@ -14,10 +12,10 @@ ghost use Prim.Native.Nat.{min, _≤_};
 ghost use lib.ListN.{drop};
 ghost use Rattle.io.specs.Counts.{Counts};
 ghost use Rattle.tables.specs.Lists.{lists};
-ghost use Rattle.lines.specs.Text.{Holds, Prints};
+ghost use Rattle.plain_text.specs.Text.{Holds, Prints};
 ghost use Rattle.lines.specs.Lines.{refusedWord, pairLine};
-ghost use Rattle.lines.specs.Preamble.{preamble};
-ghost use Rattle.lines.specs.Preamble.Loop.{upTo};
+ghost use Rattle.preamble.specs.Preamble.{preamble};
+ghost use Rattle.preamble.specs.Preamble.Loop.{upTo};
 ghost use Rattle.lines.specs.Listing.{told, sectionLines, afterPreamble, listing};
 ghost use Rattle.lines.specs.Listing.Code.{Within};
 

@@ -1,8 +1,8 @@
 // The lines of the listing.
-use crate::text::put;
-use crate::text::put_decimal;
-use crate::text::put_hex;
 use numbers::house::put_u64;
+use plain_text::put;
+use plain_text::put_decimal;
+use plain_text::put_hex;
 use records::Next;
 use records::Record;
 use records::next_event;
@@ -13,7 +13,7 @@ ghost use mathlib.Core.Bool.{true};
 ghost use lib.ListN.{length};
 ghost use Rattle.numbers.specs.Fixed.{bigBytes};
 ghost use Rattle.records.specs.Stream.{inValues};
-ghost use Rattle.lines.specs.Text.Laws.{Adds};
+ghost use Rattle.plain_text.specs.Text.Laws.{Adds};
 ghost use Rattle.lines.specs.Lines.{timeLine, hexLine, pairLine, realWord, stateWord, eventLine, eventLines};
 ghost use Rattle.lines.specs.Lines.Code.{numbered, Turned};
 

@@ -2,8 +2,7 @@
 use crate::text;
 use held::byte_or_zero;
 use held::parts::first_bytes;
-use numbers::leb128;
-use numbers::leb128::Leb;
+use leb128::Leb;
 ghost use Prim.Native.Nat.{_≤_, _<_};
 
 fn show(r: Leb, signed: bool) {

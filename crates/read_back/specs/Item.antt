@@ -17,11 +17,11 @@ use Rattle.numbers.specs.declared.marks.Section.{Section}
 use Rattle.numbers.specs.declared.marks.Section.the-variants as section
 use Rattle.tables.specs.Lists.{Lists, nth, signals}
 use Rattle.values.specs.Value.{onRead, value}
-use Rattle.signals.specs.Sections.{nextId, nextTime}
-use Rattle.signals.specs.declared.NextId.{NextId}
-use Rattle.signals.specs.declared.NextId.the-variants as ids
-use Rattle.signals.specs.declared.NextTime.{NextTime}
-use Rattle.signals.specs.declared.NextTime.the-variants as times
+use Rattle.section_parts.specs.Sections.{nextId, nextTime}
+use Rattle.section_parts.specs.declared.NextId.{NextId}
+use Rattle.section_parts.specs.declared.NextId.the-variants as ids
+use Rattle.section_parts.specs.declared.NextTime.{NextTime}
+use Rattle.section_parts.specs.declared.NextTime.the-variants as times
 use Rattle.read_back.specs.declared.Mode.{Mode}
 use Rattle.read_back.specs.declared.Mode.the-variants.{Sections, Entries, Values, Closing, Changes, Between}
 use Rattle.read_back.specs.declared.Said.the-variants.{Nothing, Time, Write, StepEnd}

@@ -11,7 +11,7 @@ use Rattle.states.specs.Letters.{ieee1164, crateOrder, placeOf}
 use Rattle.tables.specs.Lists.{Lists, nth}
 use Rattle.rules.specs.Gather.{Act, time, write, stepEnd}
 use Rattle.gather.specs.Run.{Scan, say, done, fault}
-use Rattle.signals.specs.Sections.{scanSections}
+use Rattle.section_parts.specs.Sections.{scanSections}
 pub mod Laws
 pub mod Turn
 pub mod Loop

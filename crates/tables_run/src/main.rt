@@ -23,7 +23,7 @@ fn lent(line: &[u8], k: usize) -> usize {
 fn checked(line: &[u8], bytes: &[u8], words: &[u32]) {
     show(
         part(line, b'|', 0),
-        tables::checks(
+        checks::checks(
             bytes_of(bytes, 0, part(line, b'|', 1)),
             numbers_of(words, 1, part(line, b'|', 2)),
             numbers_of(words, 2, part(line, b'|', 3)),

@@ -4,7 +4,7 @@ use Prim.Native.Nat.{ℕ}
 use mathlib.Core.Bool.{cond}
 use mathlib.Core.List.{List, [], _∷_, _++_}
 use lib.ListN.{take}
-use Rattle.lines.specs.Text.{decimal, hex}
+use Rattle.plain_text.specs.Text.{decimal, hex}
 use Rattle.answers.specs.declared.Answer.{Answer}
 use Rattle.held.specs.Held.{isHeld}
 pub mod Code

@@ -2,12 +2,12 @@
 use answers::Answer;
 use held::holds;
 use held::parts::first_bytes;
-use lines::text::put;
-use lines::text::put_decimal;
-use lines::text::put_hex;
+use plain_text::put;
+use plain_text::put_decimal;
+use plain_text::put_hex;
 ghost use mathlib.Core.Path.{_≡_};
-ghost use Rattle.lines.specs.Text.{Holds};
-ghost use Rattle.lines.specs.Text.Laws.{Adds};
+ghost use Rattle.plain_text.specs.Text.{Holds};
+ghost use Rattle.plain_text.specs.Text.Laws.{Adds};
 ghost use Rattle.told.specs.Told.{spaced, pair, numbers, reported, told};
 
 fn length(n: u64) -> usize

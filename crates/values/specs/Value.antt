@@ -7,9 +7,9 @@ use lib.ListN.{length, getD}
 use lib.Dec.{leb, eqb}
 use Rattle.slices.specs.Splice.{part}
 use Rattle.numbers.specs.Fixed.{little}
-use Rattle.numbers.specs.Leb128.{readUnsigned, readSigned}
-use Rattle.numbers.specs.declared.leb128.Leb.{Leb}
-use Rattle.numbers.specs.declared.leb128.Leb.the-variants as leb
+use Rattle.leb128.specs.Leb128.{readUnsigned, readSigned}
+use Rattle.leb128.specs.declared.Leb.{Leb}
+use Rattle.leb128.specs.declared.Leb.the-variants as leb
 use Rattle.states.specs.Letters.{mapped}
 use Rattle.values.specs.declared.Read.{Read}
 use Rattle.values.specs.declared.Read.the-variants.{Value, Bad}

@@ -1,6 +1,6 @@
 // Values of signals, read from section bytes: one reader for each kind.
+use leb128::Leb;
 use numbers::fixed::read_f64_le;
-use numbers::leb128::Leb;
 use slices::Field;
 use slices::field_at;
 use states::std_logic;
@@ -35,14 +35,14 @@ fn number(at: usize, found: Leb) -> Read
 pub fn read_unsigned(s: &[u8], at: usize) -> Read
     ensures { λ r. ⌜ r ≡ unsigned (now (s .entry)) at ⌝ }
 {
-    number(at, numbers::leb128::unsigned(s, at))
+    number(at, leb128::unsigned(s, at))
 }
 
 // A signed number, as its 64 bits.
 pub fn read_signed(s: &[u8], at: usize) -> Read
     ensures { λ r. ⌜ r ≡ signed (now (s .entry)) at ⌝ }
 {
-    number(at, numbers::leb128::signed(s, at))
+    number(at, leb128::signed(s, at))
 }
 
 // A byte, at most `most`.

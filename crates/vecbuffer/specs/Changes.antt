@@ -7,9 +7,9 @@ use mathlib.Core.List.{List}
 use lib.ListN.{length}
 use Rattle.slices.specs.Splice.{splice}
 use Rattle.states.specs.Kind.{bits}
-use Rattle.vecbuffer.specs.declared.VecBufferInfo.{VecBufferInfo}
-use Rattle.vecbuffer.specs.Info.{Inside, endOf, withValue, isMarked, withMark, withoutMarks, valuesOf}
-use Rattle.vecbuffer.specs.Numbers.{listing}
+use Rattle.vecmarks.specs.declared.VecBufferInfo.{VecBufferInfo}
+use Rattle.vecmarks.specs.Info.{Inside, endOf, withValue, isMarked, withMark, withoutMarks, valuesOf}
+use Rattle.vecstarts.specs.Numbers.{listing}
 pub mod Laws
 pub mod Examples
 

@@ -8,9 +8,9 @@ use lib.ListN.{length, getD}
 use Rattle.rules.specs.Vector.{Write, any, stored, cleared}
 use Rattle.rules.specs.Gather.{State, with, elem, list}
 use Rattle.tables.specs.Layout.{Layout, start, totalBytes}
-use Rattle.vecbuffer.specs.declared.VecBufferInfo.{VecBufferInfo}
-use Rattle.vecbuffer.specs.Info.{num, infoAt, valueOf, markOf, HasValue, HasMark}
-use Rattle.vecbuffer.specs.Numbers.{Started, listedIn}
+use Rattle.vecmarks.specs.declared.VecBufferInfo.{VecBufferInfo}
+use Rattle.vecmarks.specs.Info.{num, infoAt, valueOf, markOf, HasValue, HasMark}
+use Rattle.vecstarts.specs.Numbers.{Started, listedIn}
 use Rattle.vecbuffer.specs.Changes.{Lent, mk}
 pub mod Fields
 pub mod Order

@@ -9,9 +9,9 @@ use mathlib.Core.List.{List, [], _++_}
 use native.Mathlib.Omega.{arith}
 use lib.ListN.{length, take}
 use Rattle.numbers.specs.Fixed.Laws.{Bytes}
-use Rattle.numbers.specs.Leb128.{readUnsigned, readSigned}
-use Rattle.numbers.specs.declared.leb128.Leb.{Leb}
-use Rattle.numbers.specs.declared.leb128.Leb.the-variants.{Value}
+use Rattle.leb128.specs.Leb128.{readUnsigned, readSigned}
+use Rattle.leb128.specs.declared.Leb.{Leb}
+use Rattle.leb128.specs.declared.Leb.the-variants.{Value}
 use Rattle.written.specs.Ended.{Ended, wrote}
 use Rattle.written.specs.Ended as ended
 use Rattle.written.specs.Shortest.{unsignedBytes, signedBytes}
@@ -21,9 +21,9 @@ use Rattle.tables.specs.declared.Check.{Check}
 use Rattle.tables.specs.declared.Check.the-variants.{Passed, Refused}
 use Rattle.gather.specs.Run.{Scan}
 use Rattle.gather.specs.Run.Events.{Ends, Faults}
-use Rattle.signals.specs.Sections.{scanSections}
+use Rattle.section_parts.specs.Sections.{scanSections}
 use Rattle.changes.specs.Changes.{scanChanges}
-use Rattle.sections_writer.specs.Checked.{checksWithoutRoom, without-number, without-limits, without-alike}
+use Rattle.checks.specs.Checked.{checksWithoutRoom, without-number, without-limits, without-alike}
 use Rattle.sections_writer.specs.Writer as writer
 use Rattle.read_back.specs.ReadBack as back
 use Rattle.reread.specs.Reread.Refused.{Comes, Own, writes-as, Full, gives-as}

@@ -13,7 +13,7 @@ use Rattle.tables.specs.declared.Check.{Check}
 use Rattle.tables.specs.declared.Check.the-variants.{Passed, Refused}
 use Rattle.records.specs.Out.{Rooms}
 use Rattle.gather.specs.Run.{Went, went, out, runAll}
-use Rattle.signals.specs.Sections.{scanSections}
+use Rattle.section_parts.specs.Sections.{scanSections}
 use Rattle.changes.specs.Changes.{scanChanges}
 use Rattle.written.specs.Ended.{wrote}
 use Rattle.sections_writer.specs.Writer.{writeSections}

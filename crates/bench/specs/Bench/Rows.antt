@@ -9,7 +9,7 @@ use Rattle.numbers.specs.Fixed.{big, bigBytes}
 use Rattle.records.specs.Stream as stream
 use Rattle.tables.specs.Checks.{withinLimit}
 use Rattle.step_ends.specs.Steps as steps
-use Rattle.fragments.specs.Places as places
+use Rattle.sessions.specs.Places as places
 use Rattle.fragments.specs.Output as outputs
 use Rattle.fragments.specs.Output.{fragment, closed, held, bytesOf}
 use Rattle.fragments.specs.Counting as counting

@@ -20,8 +20,8 @@ use Rattle.gather.specs.declared.Part.the-variants.{Went, Out}
 use Rattle.gather.specs.Run.{Scan, say, done, went, out, fitted, acted, after, run}
 use Rattle.gather.specs.Memory.{Mem, memOf, Roomy}
 use Rattle.gather.specs.Follows.{Follows, Ends, Acts, Runs, Asks, runs-done, runs-fault, runs-say, runs-full, asks-acted, asks-roomy}
-use Rattle.signals.specs.Parts.{Given}
-use Rattle.signals.specs.declared.Source.the-variants.{One}
+use Rattle.section_parts.specs.Parts.{Given}
+use Rattle.section_parts.specs.declared.Source.the-variants.{One}
 use Rattle.changes.specs.declared.Change.{Change}
 use Rattle.changes.specs.declared.Change.the-variants.{Time, Write, StepEnd, End, Bad}
 use Rattle.changes.specs.declared.Turn.{Turn}

@@ -19,7 +19,7 @@ use Rattle.tables.specs.declared.Check.the-variants.{Passed, Refused}
 use Rattle.answers.specs.declared.Answer.{Answer}
 use Rattle.answers.specs.Outcome.{Left, Lent, refused, leaves}
 use Rattle.doorquill.specs.Entries.{readSections}
-use Rattle.answers.specs.Reading.{leftOf, lentOf}
+use Rattle.reading_ends.specs.Reading.{leftOf, lentOf}
 use Rattle.doorquill.specs.Lent.{LeftLent}
 use Rattle.doorquill.specs.Lent.Flat.{roomFor, lows, flatTable, checkFlat, checksFlat, readPassed, refusedLent, readBy, readFlat, leftLent}
 
@@ -117,10 +117,6 @@ front : (flat : List ℕ) (v : ℕ) → 4 * v ≤ length flat → part (splice (
 unfolding splice part
 front flat v o = take-at (lows (take v (drop (3 * v) flat))) _ v (length-lows _ ∙ length-part flat (3 * v) v (omega arith))
 
-pub run-is : (s : List ℕ) (at n : ℕ) {l : List ℕ} → l ≡ take (at + n - at) (drop at s) → l ≡ part s at n
-unfolding part
-run-is s at n e = let h : at + n - at ≡ n = omega arith in e ∙ rw h
-
 pub first-is : (s : List ℕ) (n : ℕ) {l : List ℕ} → l ≡ take (n - 0) (drop 0 s) → l ≡ part s 0 n
 unfolding part
 first-is s n e = let h : n - 0 ≡ n = omega arith in e ∙ rw h
@@ -144,7 +140,7 @@ module _ {x : Left} (kinds refs vecs : List ℕ) (flag : Bool) (s : List ℕ) (l
       states-front : part (splice (replicate 16383 0) 0 (lows (part flat (3 * v) v))) 0 v ≡ lows (part flat (3 * v) v)
       states-front = front flat v o
 
-pub ruleset runs-laws = (run-is, first-is, rest-read, runs-read, table-read)
+pub ruleset runs-laws = (first-is, rest-read, runs-read, table-read)
 
 -- ---- the whole
 

@@ -1,7 +1,7 @@
 -- `unfolding opened` opens every definition that a row computes with.
 -- Assumes nothing.
 use Rattle.slices.specs.Splice as splices
-use Rattle.numbers.specs.Leb128 as leb
+use Rattle.leb128.specs.Leb128 as leb
 use Rattle.numbers.specs.Fixed as fixed
 use Rattle.numbers.specs.Marks as marks
 use Rattle.states.specs.Kind as kind
@@ -17,7 +17,7 @@ use Rattle.records.specs.Out as outs
 use Rattle.records.specs.Stream as stream
 use Rattle.values.specs.Value as values
 use Rattle.gather.specs.Run as running
-use Rattle.signals.specs.Sections as section
+use Rattle.section_parts.specs.Sections as section
 use Rattle.changes.specs.Changes as change
 use Rattle.encoder.specs.Rule as rules
 use Rattle.answers.specs.Outcome as ending

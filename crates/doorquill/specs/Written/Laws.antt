@@ -8,9 +8,9 @@ use lib.ListN.{length}
 use Rattle.tables.specs.Lists.{Lists}
 use Rattle.tables.specs.declared.Check.{Check}
 use Rattle.tables.specs.declared.Check.the-variants as check
-use Rattle.signals.specs.Parts.{withKinds}
+use Rattle.section_parts.specs.Parts.{withKinds}
 use Rattle.changes.specs.Changes.Record.{ofKinds}
-use Rattle.sections_writer.specs.Checked.{checksWithoutRoom}
+use Rattle.checks.specs.Checked.{checksWithoutRoom}
 use Rattle.sections_writer.specs.Writer as writer
 use Rattle.sections_writer.specs.Writer.Kinds.{sections-kinds}
 use Rattle.read_back.specs.ReadBack as back

@@ -9,7 +9,7 @@ use Rattle.numbers.specs.Fixed.{bigBytes}
 use Rattle.written.specs.Shortest as shortest
 use Rattle.written.specs.Little as littles
 use Rattle.tables.specs.Lists.{Lists}
-use Rattle.sections_writer.specs.Checked as checks
+use Rattle.checks.specs.Checked as checks
 use Rattle.sections_writer.specs.Writer as writer
 use Rattle.read_back.specs.ReadBack as back
 use Rattle.answers.specs.Outcome.{LeftKept}

@@ -12,8 +12,8 @@ use Rattle.written.specs.Ended.{Ended, wrote, refused}
 use Rattle.step_ends.specs.declared.Names.{Names}
 use Rattle.step_ends.specs.declared.Watch.{Watch}
 use Rattle.step_ends.specs.Steps.{lineOf, twoOf, suits, shows, seeTime, seeValue, seeReal, seeEvent, seeNext, see, lastStep, onSeen, unseen, stepsFrom, stepEnds, rose}
-use Rattle.fragments.specs.declared.Bench.{Bench}
-use Rattle.fragments.specs.Places.{lowest, isFree, isAt, placeFor, counted, dropped}
+use Rattle.sessions.specs.declared.Bench.{Bench}
+use Rattle.sessions.specs.Places.{lowest, isFree, isAt, placeFor, counted, dropped}
 use Rattle.fragments.specs.Output.{Out, fragment, closed, held, outBytes, bytesOf, heldAt, heldFrom}
 use Rattle.fragments.specs.Counting.{Does, went, stops, seated, closes, behind, andThen, counting, closing, stepEnd, finished, onDoes, runs, countFragments}
 

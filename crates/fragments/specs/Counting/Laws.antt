@@ -12,9 +12,9 @@ use lib.Dec.{ltb, leb, eqb}
 use Rattle.slices.specs.Choice.{cond-ind}
 use Rattle.step_ends.specs.declared.Watch.{Watch}
 use Rattle.step_ends.specs.Steps.{rose}
-use Rattle.fragments.specs.declared.Bench.{Bench}
-use Rattle.fragments.specs.Places.{placeOf, placeFor, counted, dropped}
-use Rattle.fragments.specs.Places.Laws.{Most, counted-most, dropped-most}
+use Rattle.sessions.specs.declared.Bench.{Bench}
+use Rattle.sessions.specs.Places.{placeOf, placeFor, counted, dropped}
+use Rattle.sessions.specs.Places.Laws.{Most, counted-most, dropped-most}
 use Rattle.fragments.specs.Output.{Out, fragment, outBytes, bytesOf}
 use Rattle.fragments.specs.Counting.{Does, went, stops, seated, closes, closedOf, behind, andThen, counting, closing, stepEnd}
 

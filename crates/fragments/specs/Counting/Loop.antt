@@ -19,12 +19,12 @@ use Rattle.step_ends.specs.declared.Seen.{Seen}
 use Rattle.step_ends.specs.declared.Seen.the-variants as seen
 use Rattle.step_ends.specs.Steps.{Steps, done, see, lastStep, onSeen, unseen, stepsFrom, stepEnds}
 use Rattle.step_ends.specs.Steps.Laws.{Ahead, see-ahead, once}
-use Rattle.fragments.specs.declared.Bench.{Bench}
+use Rattle.sessions.specs.declared.Bench.{Bench}
 use Rattle.fragments.specs.declared.Progress.{Progress}
 use Rattle.fragments.specs.declared.Going.{Going}
 use Rattle.fragments.specs.declared.Going.the-variants.{More, Over}
 use Rattle.fragments.specs.declared.Turn.{Turn}
-use Rattle.fragments.specs.Places.Laws.{Most, empty-most}
+use Rattle.sessions.specs.Places.Laws.{Most, empty-most}
 use Rattle.fragments.specs.Output.{Out, bytesOf, heldOf}
 use Rattle.fragments.specs.Output.Laws.{bytes-append}
 use Rattle.fragments.specs.Output.Code.{puts-room}

@@ -15,11 +15,11 @@ use Rattle.slices.specs.declared.Field.the-variants as field
 use Rattle.written.specs.Put.{afterPut, Puts, puts-more}
 use Rattle.step_ends.specs.declared.Watch.{Watch}
 use Rattle.step_ends.specs.Steps.{rose}
-use Rattle.fragments.specs.declared.Bench.{Bench}
+use Rattle.sessions.specs.declared.Bench.{Bench}
 use Rattle.fragments.specs.declared.Put.the-variants.{Next, Refused}
 use Rattle.fragments.specs.declared.Stepped.{Stepped}
-use Rattle.fragments.specs.Places.{placeOf, placeFor, counted, dropped}
-use Rattle.fragments.specs.Places.Code.{Few, Countable}
+use Rattle.sessions.specs.Places.{placeOf, placeFor, counted, dropped}
+use Rattle.sessions.specs.Places.Code.{Few, Countable}
 use Rattle.fragments.specs.Output.{Out, fragment, closed, outBytes, bytesOf}
 use Rattle.fragments.specs.Output.Laws.{bytes-append, bytes-one}
 use Rattle.fragments.specs.Output.Code.{puts-out, puts-none, puts-room}

@@ -17,13 +17,13 @@ use Rattle.step_ends.specs.declared.Seen.{Seen}
 use Rattle.step_ends.specs.declared.Seen.the-variants as seen
 use Rattle.step_ends.specs.Steps.{see}
 use Rattle.step_ends.specs.Steps.Laws.{Ahead, see-ahead}
-use Rattle.fragments.specs.declared.Bench.{Bench}
+use Rattle.sessions.specs.declared.Bench.{Bench}
 use Rattle.fragments.specs.declared.Put.the-variants.{Next, Refused}
 use Rattle.fragments.specs.declared.Stepped.{Stepped}
 use Rattle.fragments.specs.declared.Progress.{Progress}
 use Rattle.fragments.specs.declared.Going.the-variants.{More, Over}
 use Rattle.fragments.specs.declared.Turn.{Turn}
-use Rattle.fragments.specs.Places.Code.{Few}
+use Rattle.sessions.specs.Places.Code.{Few}
 use Rattle.fragments.specs.Output.{bytesOf, heldOf}
 use Rattle.fragments.specs.Output.Code.{puts-room}
 use Rattle.fragments.specs.Counting.{Does, went, stops, stepEnd}

@@ -16,8 +16,8 @@ use Rattle.slices.specs.declared.Field.the-variants.{Next, Short}
 use Rattle.numbers.specs.Fixed.{bigBytes}
 use Rattle.numbers.specs.Fixed.Laws.{length-bigBytes}
 use Rattle.written.specs.Put.{afterPut, Puts, puts-one, puts-short, puts-more}
-use Rattle.fragments.specs.declared.Bench.{Bench}
-use Rattle.fragments.specs.Places.{isFree}
+use Rattle.sessions.specs.declared.Bench.{Bench}
+use Rattle.sessions.specs.Places.{isFree}
 use Rattle.fragments.specs.Output.{Out, fragment, closed, held, outBytes, bytesOf, heldAt, heldFrom, heldOf}
 use Rattle.fragments.specs.Output.Laws.{bytes-append, bytes-one}
 

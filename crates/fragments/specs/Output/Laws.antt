@@ -8,9 +8,9 @@ use borrow.Author.Tests.{eqb-true}
 use lib.ListN.{length, getD, drop, drop-of-length-le}
 use lib.Seq.{drop-cons}
 use Rattle.slices.specs.Choice.{cond-ind}
-use Rattle.fragments.specs.declared.Bench.{Bench}
-use Rattle.fragments.specs.Places.{isFree}
-use Rattle.fragments.specs.Places.Laws.{total, Whole}
+use Rattle.sessions.specs.declared.Bench.{Bench}
+use Rattle.sessions.specs.Places.{isFree}
+use Rattle.sessions.specs.Places.Laws.{total, Whole}
 use Rattle.fragments.specs.Output.{Out, fragment, closed, held, outBytes, bytesOf, heldAt, heldFrom, heldOf, fragmentsOf, countsIn}
 
 pub bytes-append : (a b : List Out) → bytesOf (a ++ b) ≡ bytesOf a ++ bytesOf b

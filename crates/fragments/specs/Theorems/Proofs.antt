@@ -17,10 +17,10 @@ use Rattle.step_ends.specs.declared.Watch.{Watch}
 use Rattle.step_ends.specs.Steps.{Steps, step, done, refused, unseen, stepEnds, rose, risesFrom, rises, count}
 use Rattle.step_ends.specs.Steps.Laws.{Ends, ends}
 use Rattle.step_ends.specs.Steps.Shown.{Narrow, Shown, shown, rises-most}
-use Rattle.fragments.specs.declared.Bench.{Bench}
-use Rattle.fragments.specs.Places.{isFree, placeOf, placeFor, counted, empty}
-use Rattle.fragments.specs.Places.Laws.{total, Whole, counted-whole, dropped-whole, counted-total, dropped-total, empty-whole, empty-total, Below, counted-below, dropped-below, empty-below, counted-distinct, dropped-distinct, empty-distinct}
-use Rattle.fragments.specs.Places.Laws.Tally.{onto, without, Agrees, empty-agrees, counted-agrees, closed-agrees, dropped-agrees}
+use Rattle.sessions.specs.declared.Bench.{Bench}
+use Rattle.sessions.specs.Places.{isFree, placeOf, placeFor, counted, empty}
+use Rattle.sessions.specs.Places.Laws.{total, Whole, counted-whole, dropped-whole, counted-total, dropped-total, empty-whole, empty-total, Below, counted-below, dropped-below, empty-below, counted-distinct, dropped-distinct, empty-distinct}
+use Rattle.sessions.specs.Places.Laws.Tally.{onto, without, Agrees, empty-agrees, counted-agrees, closed-agrees, dropped-agrees}
 use Rattle.fragments.specs.Output.{Out, fragment, closed, held, bytesOf, recordsIn, heldAt, heldFrom, heldOf, fragmentsOf, countsIn}
 use Rattle.fragments.specs.Output.Laws.{fragments-append, counts-append, held-total, held-fragments}
 use Rattle.fragments.specs.Output.Back.{Fits, records-back}

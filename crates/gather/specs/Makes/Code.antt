@@ -23,9 +23,9 @@ use Rattle.records.specs.declared.Record.the-variants.{Value}
 use Rattle.records.specs.Event.{time, recordBytes}
 use Rattle.records.specs.Out.{Rooms, Out}
 use Rattle.records.specs.Out.Laws.{EventsRoom, Appends, roomFor, room-fits, counted, value-full, value-done}
-use Rattle.vecbuffer.specs.Info.{isSecond, marksOf, Inside}
-use Rattle.vecbuffer.specs.Info as info
-use Rattle.vecbuffer.specs.Full.{fullIn}
+use Rattle.vecmarks.specs.Info.{isSecond, marksOf, Inside}
+use Rattle.vecmarks.specs.Info as info
+use Rattle.vecmarks.specs.Full.{fullIn}
 use Rattle.vecbuffer.specs.Changes.{mk, updated, Updates, taken, Takes}
 use Rattle.vecbuffer.specs.Stands.{storing}
 use Rattle.vecbuffer.specs.Stands.Laws.{asks-flags, asks-vector, asks-known, second-is, full-is, values-long, asks-update, stands-update, stands-taken, values-taken}

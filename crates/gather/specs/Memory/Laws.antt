@@ -18,11 +18,11 @@ use Rattle.states.specs.Packed.{setAt, valuePlace}
 use Rattle.states.specs.Packed.Laws.{value-byte, value-in, bit-fits, bits-some}
 use Rattle.tables.specs.Layout.{Layout, start, totalBytes}
 use Rattle.rules.specs.Gather.{State}
-use Rattle.vecbuffer.specs.declared.VecBufferInfo.{VecBufferInfo}
-use Rattle.vecbuffer.specs.Info.{infoAt, withValue, markPlace, withMark, isMarked, withoutMarks, maskBytesOf, Inside, endOf, Apart, first, HasMark}
-use Rattle.vecbuffer.specs.Info.Laws.{ask-value}
-use Rattle.vecbuffer.specs.Info.Keeps.{length-cleared, inside-as, mark-value-apart, mark-mark-apart}
-use Rattle.vecbuffer.specs.Numbers.{listing}
+use Rattle.vecmarks.specs.declared.VecBufferInfo.{VecBufferInfo}
+use Rattle.vecmarks.specs.Info.{infoAt, withValue, markPlace, withMark, isMarked, withoutMarks, maskBytesOf, Inside, endOf, Apart, first, HasMark}
+use Rattle.vecmarks.specs.Info.Laws.{ask-value}
+use Rattle.vecmarks.specs.Info.Keeps.{length-cleared, inside-as, mark-value-apart, mark-mark-apart}
+use Rattle.vecstarts.specs.Numbers.{listing}
 use Rattle.tables.specs.Layout.Laws.{start-le}
 use Rattle.vecbuffer.specs.Changes.{Lent, mk, marked, updated, taken}
 use Rattle.vecbuffer.specs.Changes.Laws.{none-small, one-small, after-value, after-mark, has-value, has-mark}

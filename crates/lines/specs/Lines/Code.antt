@@ -22,8 +22,8 @@ use Rattle.records.specs.Stream.Laws.{found-event, past-end}
 use Rattle.lines.specs.declared.lines.Progress.{Progress}
 use Rattle.lines.specs.declared.lines.Turn.{Turn}
 use Rattle.lines.specs.declared.lines.Turn.the-variants.{More, Over}
-use Rattle.lines.specs.Text.{decimal, hex}
-use Rattle.lines.specs.Text.Laws.{Adds, adds-then, adds-none}
+use Rattle.plain_text.specs.Text.{decimal, hex}
+use Rattle.plain_text.specs.Text.Laws.{Adds, adds-then, adds-none}
 use Rattle.lines.specs.Lines.{newline, space, timeWord, twoWord, nineWord, realWord, timeLine, hexLine, pairLine, stateWord, eventLine, oneLine, linesFrom, eventLines}
 
 -- a word, with the space behind it, and a number

@@ -11,14 +11,14 @@ use lib.Seq.{length-take-le, take-all}
 use Rattle.tables.specs.Lists.{Lists}
 use Rattle.answers.specs.declared.Answer.{Answer}
 use Rattle.doorquill.specs.Entries.{readSections}
-use Rattle.answers.specs.Reading.{leftOf, lentOf}
-use Rattle.lines.specs.declared.preamble.Opened.{Opened}
-use Rattle.lines.specs.declared.preamble.Opened.the-variants as opened
-use Rattle.lines.specs.Text.{Holds}
-use Rattle.lines.specs.Text.Laws.{Adds, adds-alone, adds-then, take-min, holds-fits, holds-front}
+use Rattle.reading_ends.specs.Reading.{leftOf, lentOf}
+use Rattle.preamble.specs.declared.Opened.{Opened}
+use Rattle.preamble.specs.declared.Opened.the-variants as opened
+use Rattle.plain_text.specs.Text.{Holds}
+use Rattle.plain_text.specs.Text.Laws.{Adds, adds-alone, adds-then, take-min, holds-fits, holds-front}
 use Rattle.lines.specs.Lines.{doneWord, refusedWord, pairLine, eventLines}
-use Rattle.lines.specs.Preamble.{preamble}
-use Rattle.lines.specs.Preamble.Loop.{Opens, OpensSays, upTo}
+use Rattle.preamble.specs.Preamble.{preamble}
+use Rattle.preamble.specs.Preamble.Loop.{Opens, OpensSays, upTo}
 use Rattle.lines.specs.Listing.{told, lends, sectionLines, afterPreamble, listing}
 
 -- ---- what is told

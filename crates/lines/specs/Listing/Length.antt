@@ -26,15 +26,15 @@ use Rattle.records.specs.Event.Laws.{length-time, length-value, length-real}
 use Rattle.records.specs.Stream.{eventLength, recordAt, nextEvent}
 use Rattle.records.specs.Stream.Laws.{Stands, found-event}
 use Rattle.gather.specs.Run.Rendered.{rendered, valuesOf}
-use Rattle.signals.specs.Sections.{scanSections}
+use Rattle.section_parts.specs.Sections.{scanSections}
 use Rattle.answers.specs.Outcome.{Left}
 use Rattle.doorquill.specs.Entries.{readSections}
 use Rattle.doorquill.specs.Entries.Reads.{eventsFrom}
 use Rattle.doorquill.specs.Demands.{sections-1, sections-2}
-use Rattle.lines.specs.Text.{decimalOf, decimal, hex, Holds, Prints}
-use Rattle.lines.specs.Text.Laws.{holds-all, holds-fits, holds-front}
+use Rattle.plain_text.specs.Text.{decimalOf, decimal, hex, Holds, Prints}
+use Rattle.plain_text.specs.Text.Laws.{holds-all, holds-fits, holds-front}
 use Rattle.lines.specs.Lines.{realWord, doneWord, refusedWord, timeLine, hexLine, pairLine, stateWord, eventLine, oneLine, linesFrom, eventLines}
-use Rattle.lines.specs.Preamble.{Opening, opens, refused, preamble}
+use Rattle.preamble.specs.Preamble.{Opening, opens, refused, preamble}
 use Rattle.lines.specs.Listing.{told, lends, sectionLines, afterPreamble, listing}
 
 -- ---- numbers, bytes and lines

@@ -21,14 +21,14 @@ use Rattle.tables.specs.Good.Laws.{sized, ranged, named}
 use Rattle.tables.specs.Checks.{unless, lowest, andThen, check1, check2, check3, check4, check5, check6, checks}
 use Rattle.tables.specs.declared.Check.{Check}
 use Rattle.tables.specs.declared.Check.the-variants as checking
-use Rattle.signals.specs.Sections.{scanSections}
+use Rattle.section_parts.specs.Sections.{scanSections}
 use Rattle.doorquill.specs.Entries.{readSections}
 use Rattle.doorquill.specs.Entries.Reads.{Why}
 use Rattle.doorquill.specs.Entries.Scanned.{sections-scanned}
 use Rattle.doorquill.specs.Demands.{sections-2}
-use Rattle.lines.specs.declared.preamble.Item.{Item}
-use Rattle.lines.specs.declared.preamble.Item.the-variants.{Signal, Vector, Sections, Refused}
-use Rattle.lines.specs.Preamble.{itemAt, Opening, opens, refused, oneItem, opening, preamble}
+use Rattle.preamble.specs.declared.Item.{Item}
+use Rattle.preamble.specs.declared.Item.the-variants.{Signal, Vector, Sections, Refused}
+use Rattle.preamble.specs.Preamble.{itemAt, Opening, opens, refused, oneItem, opening, preamble}
 use Rattle.lines.specs.Listing.{lends}
 
 -- ---- what 256 signals and 64 vectors need

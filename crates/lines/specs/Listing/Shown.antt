@@ -23,7 +23,7 @@ use Rattle.records.specs.Event.Laws.{length-time, length-value, length-real}
 use Rattle.records.specs.Stream.{eventLength, recordAt, isTime, inValues, judged, nextEvent}
 use Rattle.records.specs.Stream.Laws.{past-end}
 use Rattle.gather.specs.Run.Rendered.{rendered, valuesOf}
-use Rattle.signals.specs.Sections.{scanSections}
+use Rattle.section_parts.specs.Sections.{scanSections}
 use Rattle.answers.specs.Outcome.{Left}
 use Rattle.doorquill.specs.Entries.{readSections}
 use Rattle.doorquill.specs.Entries.Reads.{eventsFrom}

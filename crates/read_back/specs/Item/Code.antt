@@ -23,13 +23,13 @@ use Rattle.tables.specs.Lists.{nth, signals}
 use Rattle.values.specs.declared.Read.{Read}
 use Rattle.values.specs.declared.Read.the-variants as read
 use Rattle.values.specs.Value.{onRead, value, Suits}
-use Rattle.signals.specs.Sections.{nextId, nextTime}
-use Rattle.signals.specs.Sections.Deltas.{IdAhead, id-ahead}
-use Rattle.signals.specs.Parts.{withKinds}
-use Rattle.signals.specs.declared.NextId.{NextId}
-use Rattle.signals.specs.declared.NextId.the-variants as ids
-use Rattle.signals.specs.declared.NextTime.{NextTime}
-use Rattle.signals.specs.declared.NextTime.the-variants as times
+use Rattle.section_parts.specs.Sections.{nextId, nextTime}
+use Rattle.section_parts.specs.Sections.Deltas.{IdAhead, id-ahead}
+use Rattle.section_parts.specs.Parts.{withKinds}
+use Rattle.section_parts.specs.declared.NextId.{NextId}
+use Rattle.section_parts.specs.declared.NextId.the-variants as ids
+use Rattle.section_parts.specs.declared.NextTime.{NextTime}
+use Rattle.section_parts.specs.declared.NextTime.the-variants as times
 use Rattle.read_back.specs.declared.Mode.{Mode}
 use Rattle.read_back.specs.declared.Mode.the-variants.{Sections, Entries, Values, Closing, Changes, Between}
 use Rattle.read_back.specs.declared.Said.{Said}

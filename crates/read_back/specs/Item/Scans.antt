@@ -24,12 +24,12 @@ use Rattle.values.specs.Value.{onRead, value, Suits}
 use Rattle.values.specs.Value.Laws.{Ahead, value-ahead, value-suits}
 use Rattle.rules.specs.Gather.{time, write, stepEnd}
 use Rattle.gather.specs.Run.{Scan, say, done, fault, and-then}
-use Rattle.signals.specs.Sections.{field, endMark, eachValue, nextId, oneChange, changeList, nextTime, snapshot, oneStep, steps, cycle, entries, directory, oneSection, sections}
-use Rattle.signals.specs.Sections.Deltas.{IdAhead, id-ahead, id-none, TimeAhead, time-ahead}
-use Rattle.signals.specs.declared.NextId.{NextId}
-use Rattle.signals.specs.declared.NextId.the-variants as ids
-use Rattle.signals.specs.declared.NextTime.{NextTime}
-use Rattle.signals.specs.declared.NextTime.the-variants as times
+use Rattle.section_parts.specs.Sections.{field, endMark, eachValue, nextId, oneChange, changeList, nextTime, snapshot, oneStep, steps, cycle, entries, directory, oneSection, sections}
+use Rattle.section_parts.specs.Sections.Deltas.{IdAhead, id-ahead, id-none, TimeAhead, time-ahead}
+use Rattle.section_parts.specs.declared.NextId.{NextId}
+use Rattle.section_parts.specs.declared.NextId.the-variants as ids
+use Rattle.section_parts.specs.declared.NextTime.{NextTime}
+use Rattle.section_parts.specs.declared.NextTime.the-variants as times
 use Rattle.read_back.specs.declared.Mode.{Mode}
 use Rattle.read_back.specs.declared.Mode.the-variants.{Sections, Entries, Values, Closing, Changes, Between}
 use Rattle.read_back.specs.declared.Said.{Said}

@@ -11,11 +11,11 @@ use Rattle.written.specs.Ended.{refused}
 use Rattle.tables.specs.Lists.{Lists, signals}
 use Rattle.rules.specs.Gather.{time, write, stepEnd}
 use Rattle.gather.specs.Run.{Scan}
-use Rattle.signals.specs.Parts.{withKinds}
-use Rattle.signals.specs.Sections.{nextId, scanSections}
-use Rattle.signals.specs.Sections.Deltas.{id-same}
-use Rattle.signals.specs.declared.NextId.{NextId}
-use Rattle.signals.specs.declared.NextId.the-variants as ids
+use Rattle.section_parts.specs.Parts.{withKinds}
+use Rattle.section_parts.specs.Sections.{nextId, scanSections}
+use Rattle.section_parts.specs.Sections.Deltas.{id-same}
+use Rattle.section_parts.specs.declared.NextId.{NextId}
+use Rattle.section_parts.specs.declared.NextId.the-variants as ids
 use Rattle.read_back.specs.declared.Mode.{Mode}
 use Rattle.read_back.specs.declared.Mode.the-variants.{Sections, Entries, Values, Closing, Changes, Between}
 use Rattle.read_back.specs.declared.Said.{Said}

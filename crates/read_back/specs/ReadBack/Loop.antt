@@ -16,8 +16,8 @@ use Rattle.written.specs.Ended.{refused, Fills}
 use Rattle.written.specs.Put.{Lies}
 use Rattle.tables.specs.Lists.{Lists}
 use Rattle.gather.specs.Run.{Scan}
-use Rattle.signals.specs.Parts.{withKinds}
-use Rattle.signals.specs.Sections.{scanSections}
+use Rattle.section_parts.specs.Parts.{withKinds}
+use Rattle.section_parts.specs.Sections.{scanSections}
 use Rattle.read_back.specs.declared.Mode.{Mode}
 use Rattle.read_back.specs.declared.Mode.the-variants.{Sections}
 use Rattle.read_back.specs.declared.Said.{Said}

@@ -21,7 +21,7 @@ use Rattle.changes.specs.declared.Change.{Change}
 use Rattle.changes.specs.declared.Change.the-variants as change
 use Rattle.changes.specs.Changes.{nextChange, oneRecord, changes, scanChanges}
 use Rattle.changes.specs.Changes.Found.{Found, change-found}
-use Rattle.signals.specs.Sections.{nextTime, changeList, oneStep, steps, sections, scanSections}
+use Rattle.section_parts.specs.Sections.{nextTime, changeList, oneStep, steps, sections, scanSections}
 use Rattle.written.specs.Ended.{Ended, wrote, refused}
 use Rattle.written.specs.Shortest.{unsignedBytes, signedBytes, groups, fits, rest}
 use Rattle.written.specs.Shortest.Laws.{bytes-some}

@@ -12,7 +12,7 @@ use Rattle.rules.specs.Gather.{Act, time, write, stepEnd, of, State, begin, wid
 use Rattle.records.specs.Out.{Rooms, Out, empty, appendAll}
 use Rattle.gather.specs.Run.{gathers, ofVector, eventsOf, Scan, say, done, fault, out, fitted, acted, after, run, runAll}
 use Rattle.changes.specs.Changes.{scanChanges}
-use Rattle.signals.specs.Sections.{scanSections}
+use Rattle.section_parts.specs.Sections.{scanSections}
 use Rattle.written.specs.Ended as ended
 use Rattle.sections_writer.specs.Writer.{writeSections}
 use Rattle.reread.specs.Reread.{bareAct, bare, bareWent}

@@ -16,8 +16,8 @@ use Rattle.values.specs.declared.Read.the-variants.{Value}
 use Rattle.values.specs.Value.{onRead, value}
 use Rattle.rules.specs.Gather.{time, write}
 use Rattle.gather.specs.Run.{Scan, say, done, and-then}
-use Rattle.signals.specs.declared.NextTime.the-variants as times
-use Rattle.signals.specs.Sections.{field, endMark, nextId, oneChange, changeList, nextTime, oneStep, steps, cycle, oneSection, sections}
+use Rattle.section_parts.specs.declared.NextTime.the-variants as times
+use Rattle.section_parts.specs.Sections.{field, endMark, nextId, oneChange, changeList, nextTime, oneStep, steps, cycle, oneSection, sections}
 use Rattle.written.specs.Shortest.{unsignedBytes, signedBytes, groups, fits, rest}
 use Rattle.written.specs.Little.{fixedBytes}
 use Rattle.written.specs.Little.Laws.{length-fixedBytes}

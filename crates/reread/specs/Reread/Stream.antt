@@ -17,7 +17,7 @@ use Rattle.changes.specs.declared.Change.{Change}
 use Rattle.changes.specs.declared.Change.the-variants as change
 use Rattle.changes.specs.Changes.{nextChange, oneRecord, changes, scanChanges}
 use Rattle.changes.specs.Changes.Found.{Found, change-found}
-use Rattle.signals.specs.Sections.{scanSections}
+use Rattle.section_parts.specs.Sections.{scanSections}
 use Rattle.written.specs.Ended.{Ended, wrote}
 use Rattle.sections_writer.specs.declared.Pen.{Pen}
 use Rattle.sections_writer.specs.Writer.{goes, stops, timeBytes, timeGood, timed, writeBytes, wroteTo, stepped, closing, givenTime, givenWrite, given, begin, one, writing, writeSections}

@@ -1,5 +1,5 @@
 -- `signals::begin_step` meets its contract: each need follows from `begin-laws`. Assumes nothing.
-use Rattle.signals.specs.Sections.Steps.{begin-laws}
+use Rattle.section_parts.specs.Sections.Steps.{begin-laws}
 use borrow.Author.Needs.{needs}
 use Rattle.signals.proofs.begin_step.Statement.{statement}
 use Rattle.signals.proofs.begin_step.Tie as tie

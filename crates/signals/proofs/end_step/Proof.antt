@@ -1,5 +1,5 @@
 -- `signals::end_step` meets its contract: each need follows from `end-laws`. Assumes nothing.
-use Rattle.signals.specs.Sections.Steps.{end-laws}
+use Rattle.section_parts.specs.Sections.Steps.{end-laws}
 use borrow.Author.Needs.{needs}
 use Rattle.signals.proofs.end_step.Statement.{statement}
 use Rattle.signals.proofs.end_step.Tie as tie

@@ -1,5 +1,5 @@
 -- `signals::read_cycle_section` meets its contract: each need follows from `cycle-laws`. Assumes nothing.
-use Rattle.signals.specs.Sections.Heads.{cycle-laws}
+use Rattle.section_parts.specs.Sections.Heads.{cycle-laws}
 use borrow.Author.Needs.{needs}
 use Rattle.signals.proofs.read_cycle_section.Statement.{statement}
 use Rattle.signals.proofs.read_cycle_section.Tie as tie

@@ -1,5 +1,5 @@
 -- `signals::read_section` meets its contract: each need follows from `section-laws`. Assumes nothing.
-use Rattle.signals.specs.Sections.All.{section-laws}
+use Rattle.section_parts.specs.Sections.All.{section-laws}
 use borrow.Author.Needs.{needs}
 use Rattle.signals.proofs.read_section.Statement.{statement}
 use Rattle.signals.proofs.read_section.Tie as tie

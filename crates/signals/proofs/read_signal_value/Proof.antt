@@ -1,5 +1,5 @@
 -- `signals::read_signal_value` meets its contract: each need follows from `value-laws`. Assumes nothing.
-use Rattle.signals.specs.Sections.Acts.{value-laws, value-asks}
+use Rattle.section_parts.specs.Sections.Acts.{value-laws, value-asks}
 use borrow.Author.Needs.{needs}
 use Rattle.signals.proofs.read_signal_value.Statement.{statement}
 use Rattle.signals.proofs.read_signal_value.Tie as tie

@@ -3,8 +3,8 @@ use Rattle.tables.specs.Lists.{lists}
 use Rattle.gather.specs.Memory.{memOf}
 use lib.ListN.{length}
 use borrow.Author.Needs.{needs}
-use Rattle.signals.specs.Sections.Loops.{OnWrites, leftOf, writes-laws, writes-value}
-use Rattle.signals.specs.Sections.Along.Run.{ask-run, run-less, run-more}
+use Rattle.section_parts.specs.Sections.Loops.{OnWrites, leftOf, writes-laws, writes-value}
+use Rattle.runs.specs.Along.Run.{ask-run, run-less, run-more}
 use Rattle.signals.proofs.read_signal_values.Statement.{statement}
 use Rattle.signals.proofs.read_signal_values.Tie as tie
 

@@ -4,7 +4,7 @@ use lib.ListN.{length}
 use borrow.Author.Needs.{needs}
 use Rattle.tables.specs.Lists.{lists}
 use Rattle.gather.specs.Memory.{memOf}
-use Rattle.signals.specs.Sections.All.{OnSections, sections-laws}
+use Rattle.section_parts.specs.Sections.All.{OnSections, sections-laws}
 use Rattle.signals.proofs.read_signals.Statement.{statement}
 use Rattle.signals.proofs.read_signals.Tie as tie
 

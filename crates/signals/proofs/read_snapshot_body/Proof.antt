@@ -1,5 +1,5 @@
 -- `signals::read_snapshot_body` meets its contract: each need follows from `body-laws`. Assumes nothing.
-use Rattle.signals.specs.Sections.Heads.{body-laws}
+use Rattle.section_parts.specs.Sections.Heads.{body-laws}
 use borrow.Author.Needs.{needs}
 use Rattle.signals.proofs.read_snapshot_body.Statement.{statement}
 use Rattle.signals.proofs.read_snapshot_body.Tie as tie

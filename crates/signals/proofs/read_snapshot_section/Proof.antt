@@ -1,5 +1,5 @@
 -- `signals::read_snapshot_section` meets its contract: each need follows from `snapshot-laws`. Assumes nothing.
-use Rattle.signals.specs.Sections.Heads.{snapshot-laws}
+use Rattle.section_parts.specs.Sections.Heads.{snapshot-laws}
 use borrow.Author.Needs.{needs}
 use Rattle.signals.proofs.read_snapshot_section.Statement.{statement}
 use Rattle.signals.proofs.read_snapshot_section.Tie as tie

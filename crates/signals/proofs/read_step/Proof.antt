@@ -1,5 +1,5 @@
 -- `signals::read_step` meets its contract: each need follows from `step-laws`. Assumes nothing.
-use Rattle.signals.specs.Sections.Steps.{step-laws, step-asks}
+use Rattle.section_parts.specs.Sections.Steps.{step-laws, step-asks}
 use borrow.Author.Needs.{needs}
 use Rattle.signals.proofs.read_step.Statement.{statement}
 use Rattle.signals.proofs.read_step.Tie as tie

@@ -1,5 +1,5 @@
 -- `signals::read_step_values` meets its contract: each need follows from `changes-laws`. Assumes nothing.
-use Rattle.signals.specs.Sections.Steps.{changes-laws, changes-asks}
+use Rattle.section_parts.specs.Sections.Steps.{changes-laws, changes-asks}
 use borrow.Author.Needs.{needs}
 use Rattle.signals.proofs.read_step_values.Statement.{statement}
 use Rattle.signals.proofs.read_step_values.Tie as tie

@@ -4,7 +4,7 @@ use lib.ListN.{length}
 use borrow.Author.Needs.{needs}
 use Rattle.tables.specs.Lists.{lists}
 use Rattle.gather.specs.Memory.{memOf}
-use Rattle.signals.specs.Sections.Cycles.{OnSteps, steps-laws, steps-bad, steps-end, steps-less, steps-on}
+use Rattle.section_parts.specs.Sections.Cycles.{OnSteps, steps-laws, steps-bad, steps-end, steps-less, steps-on}
 use Rattle.signals.proofs.read_steps.Statement.{statement}
 use Rattle.signals.proofs.read_steps.Tie as tie
 

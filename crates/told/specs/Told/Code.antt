@@ -5,8 +5,8 @@ use Prim.Native.Nat.{ℕ}
 use mathlib.Core.Bool.{Bool, true, false}
 use mathlib.Core.List.{List, [], _∷_}
 use lib.ListN.{take}
-use Rattle.lines.specs.Text.{decimal, hex, Holds}
-use Rattle.lines.specs.Text.Laws.{Adds, adds-then, adds-alone}
+use Rattle.plain_text.specs.Text.{decimal, hex, Holds}
+use Rattle.plain_text.specs.Text.Laws.{Adds, adds-then, adds-alone}
 use Rattle.answers.specs.declared.Answer.{Answer}
 use Rattle.held.specs.Held.{isHeld}
 use Rattle.told.specs.Told.{spaced, pair, numbers, reported, told}

@@ -14,10 +14,10 @@ use Rattle.slices.specs.declared.Field.{Field}
 use Rattle.slices.specs.declared.Field.the-variants.{Next, Short}
 use Rattle.slices.specs.Splice.{part}
 use Rattle.numbers.specs.Fixed.{little}
-use Rattle.numbers.specs.Leb128.{readUnsigned, readSigned}
-use Rattle.numbers.specs.Leb128.Laws.{leb-within, Within}
-use Rattle.numbers.specs.declared.leb128.Leb.{Leb}
-use Rattle.numbers.specs.declared.leb128.Leb.the-variants as leb128
+use Rattle.leb128.specs.Leb128.{readUnsigned, readSigned}
+use Rattle.leb128.specs.Leb128.Laws.{leb-within, Within}
+use Rattle.leb128.specs.declared.Leb.{Leb}
+use Rattle.leb128.specs.declared.Leb.the-variants as leb128
 use Rattle.states.specs.Letters.{mapped}
 use Rattle.states.specs.Letters.Laws.{mapped-most}
 use Rattle.values.specs.declared.Read.{Read}

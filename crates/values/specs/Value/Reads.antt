@@ -7,8 +7,8 @@ use borrow.Author.Tests.{leb-false, eqb-false}
 use lib.ListN.{length, getD}
 use lib.Dec.{leb, eqb}
 use Rattle.slices.specs.Choice.{cond-ind}
-use Rattle.numbers.specs.declared.leb128.Leb.{Leb}
-use Rattle.numbers.specs.declared.leb128.Leb.the-variants as leb
+use Rattle.leb128.specs.declared.Leb.{Leb}
+use Rattle.leb128.specs.declared.Leb.the-variants as leb
 use Rattle.values.specs.declared.Read.{Read}
 use Rattle.values.specs.declared.Read.the-variants.{Value, Bad}
 use Rattle.values.specs.Value.{number, unsigned, signed, byteUpTo, real, value}

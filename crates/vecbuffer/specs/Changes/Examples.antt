@@ -8,8 +8,8 @@ use Rattle.states.specs.Field.{fieldGet, fieldSet}
 use Rattle.states.specs.Packed.{fieldAt, setAt, valuePlace}
 use Rattle.tables.specs.Lists.{vectors}
 use Rattle.tables.specs.Layout.{Layout, layoutOf, start}
-use Rattle.vecbuffer.specs.Info.{infoAt, withValue, markOf, withMark, isMarked, withoutMarks}
-use Rattle.vecbuffer.specs.Numbers.{layoutFrom, filled, listing}
+use Rattle.vecmarks.specs.Info.{infoAt, withValue, markOf, withMark, isMarked, withoutMarks}
+use Rattle.vecstarts.specs.Numbers.{layoutFrom, filled, listing}
 use Rattle.vecbuffer.specs.Changes.{mk, marked, updated, taken}
 
 abbrev t : Layout

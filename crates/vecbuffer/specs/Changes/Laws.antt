@@ -15,11 +15,11 @@ use Rattle.states.specs.declared.States.{States}
 use Rattle.states.specs.declared.States.the-variants.{Two, Nine}
 use Rattle.states.specs.Kind.{bits, bytesRequired}
 use Rattle.states.specs.Packed.Laws.{bit-fits}
-use Rattle.vecbuffer.specs.declared.VecBufferInfo.{VecBufferInfo}
-use Rattle.vecbuffer.specs.Info.{Inside, withValue, isMarked, withMark, withoutMarks, valuesOf, Apart, first, HasValue, HasMark}
-use Rattle.vecbuffer.specs.Info.Laws.{ask-value}
-use Rattle.vecbuffer.specs.Info.Keeps.{length-value, length-mark, length-cleared, inside-as, mark-value-apart, mark-mark-apart}
-use Rattle.vecbuffer.specs.Numbers.{listing}
+use Rattle.vecmarks.specs.declared.VecBufferInfo.{VecBufferInfo}
+use Rattle.vecmarks.specs.Info.{Inside, withValue, isMarked, withMark, withoutMarks, valuesOf, Apart, first, HasValue, HasMark}
+use Rattle.vecmarks.specs.Info.Laws.{ask-value}
+use Rattle.vecmarks.specs.Info.Keeps.{length-value, length-mark, length-cleared, inside-as, mark-value-apart, mark-mark-apart}
+use Rattle.vecstarts.specs.Numbers.{listing}
 use Rattle.vecbuffer.specs.Changes.{Lent, mk, marked, Marks, updated, Updates, taken, Takes}
 
 -- a flag is 0 or 1

@@ -15,10 +15,10 @@ use Rattle.rules.specs.Vector.{fresh}
 use Rattle.rules.specs.Gather.{Tables, width, begin, elem}
 use Rattle.tables.specs.Lists.{vectors}
 use Rattle.tables.specs.Layout.{Layout, layoutOf, start, totalBytes}
-use Rattle.vecbuffer.specs.Info.{valueOf, markOf}
-use Rattle.vecbuffer.specs.Numbers.{layoutFrom, Shapes, startIn, Started, filled}
+use Rattle.vecmarks.specs.Info.{valueOf, markOf}
+use Rattle.vecstarts.specs.Numbers.{layoutFrom, Shapes, startIn, Started, filled}
 use Rattle.tables.specs.Layout.Laws.{start-le}
-use Rattle.vecbuffer.specs.Numbers.Laws.{width-is, width-flags}
+use Rattle.vecstarts.specs.Numbers.Laws.{width-is, width-flags}
 use Rattle.vecbuffer.specs.Stands.{Laid, Stands}
 use Rattle.vecbuffer.specs.Stands.Order.{listed-none}
 use Rattle.vecbuffer.specs.Stands.Vectors.{any-clear, getD-clear}

@@ -13,10 +13,10 @@ use Rattle.slices.specs.Choice.{tri, apart}
 use Rattle.states.specs.declared.States.the-variants.{Two}
 use Rattle.states.specs.Kind.{bits}
 use Rattle.tables.specs.Layout.{Layout, start, totalBytes}
-use Rattle.vecbuffer.specs.Info.{infoAt, valueOf, withValue, markOf, withMark, withoutMarks, Inside, endOf, Apart, first, last, HasValue, HasMark}
-use Rattle.vecbuffer.specs.Info.Keeps.{length-value, length-mark, length-cleared, value-value, mark-value, value-value-apart, mark-value-apart, value-mark, mark-mark, value-mark-apart, mark-mark-apart, value-clear, mark-clear, value-clear-apart, mark-clear-apart}
+use Rattle.vecmarks.specs.Info.{infoAt, valueOf, withValue, markOf, withMark, withoutMarks, Inside, endOf, Apart, first, last, HasValue, HasMark}
+use Rattle.vecmarks.specs.Info.Keeps.{length-value, length-mark, length-cleared, value-value, mark-value, value-value-apart, mark-value-apart, value-mark, mark-mark, value-mark-apart, mark-mark-apart, value-clear, mark-clear, value-clear-apart, mark-clear-apart}
 use Rattle.tables.specs.Layout.Laws.{start-le}
-use Rattle.vecbuffer.specs.Numbers.Laws.{bytes-most}
+use Rattle.vecstarts.specs.Numbers.Laws.{bytes-most}
 use Rattle.vecbuffer.specs.Changes.Laws.{has-value, has-mark}
 use Rattle.vecbuffer.specs.Stands.{flagsAt, Laid, Cells}
 

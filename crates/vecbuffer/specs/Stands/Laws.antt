@@ -20,11 +20,11 @@ use Rattle.states.specs.Packed.Bytes.{fields-packed, length-packed}
 use Rattle.rules.specs.Vector.{Write, Vec, all, any, stored, clashes, actsEarly}
 use Rattle.rules.specs.Gather.{State, with, elem, list}
 use Rattle.tables.specs.Layout.{Layout, valueBytes}
-use Rattle.vecbuffer.specs.declared.VecBufferInfo.{VecBufferInfo}
-use Rattle.vecbuffer.specs.Info.{num, infoAt, valueOf, withValue, markOf, withMark, isMarked, isSecond, hasMarks, isQuiet, valuesOf, marksOf, withoutMarks, Inside}
-use Rattle.vecbuffer.specs.Numbers.{listedIn, listing}
-use Rattle.vecbuffer.specs.Full.{fullIn}
-use Rattle.vecbuffer.specs.Full.Marks.{full-marks}
+use Rattle.vecmarks.specs.declared.VecBufferInfo.{VecBufferInfo}
+use Rattle.vecmarks.specs.Info.{num, infoAt, valueOf, withValue, markOf, withMark, isMarked, isSecond, hasMarks, isQuiet, valuesOf, marksOf, withoutMarks, Inside}
+use Rattle.vecstarts.specs.Numbers.{listedIn, listing}
+use Rattle.vecmarks.specs.Full.{fullIn}
+use Rattle.vecmarks.specs.Full.Marks.{full-marks}
 use Rattle.vecbuffer.specs.Changes.{mk, marked, Marks, updated, Updates, taken, Takes}
 use Rattle.vecbuffer.specs.Changes.Laws.{one-small, none-small, has-value, has-mark}
 use Rattle.vecbuffer.specs.Stands.{flagsAt, Cells, Listed, Stands, StandsIn, storing, clearing}

@@ -15,8 +15,8 @@ use lib.Seq.{getD-set-same, getD-set-other, getD-append-seam, set-out}
 use Rattle.slices.specs.Choice.{tri, apart, le-or-lt}
 use Rattle.rules.specs.Gather.{elem}
 use Rattle.tables.specs.Layout.{Layout}
-use Rattle.vecbuffer.specs.Info.{num}
-use Rattle.vecbuffer.specs.Numbers.{startIn, Started, listedIn, listing}
+use Rattle.vecmarks.specs.Info.{num}
+use Rattle.vecstarts.specs.Numbers.{startIn, Started, listedIn, listing}
 use Rattle.vecbuffer.specs.Stands.{Distinct, Listed}
 
 -- ---- in a list

@@ -11,7 +11,7 @@ use lib.ListN.{length, getD, set, replicate, length-set, length-replicate}
 use lib.Seq.{getD-set-same, getD-set-other}
 use Rattle.rules.specs.Vector.{Write, Vec, any, stored, cleared}
 use Rattle.rules.specs.Gather.{with}
-use Rattle.vecbuffer.specs.Info.{num}
+use Rattle.vecmarks.specs.Info.{num}
 
 pub num-one : (m : Bool) → eqb (num m) 1 ≡ m
 num-one true = refl

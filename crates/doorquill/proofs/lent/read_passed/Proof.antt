@@ -7,8 +7,8 @@ use Rattle.doorquill.proofs.lent.read_passed.Tie as tie
 read-table-requires : tie.Need-read-table-requires
 read-table-requires c κs = search (read-laws, needs)
 
-zero-flat-requires : tie.Need-zero-flat-requires
-zero-flat-requires c κs = search (read-laws, needs)
+clear-all-requires : tie.Need-clear-all-requires
+clear-all-requires c κs = search (read-laws, needs)
 
 same-length : tie.Need-same-length
 same-length c = search (read-laws, needs)
@@ -33,7 +33,7 @@ read-passed-spec =
     tie.close
     (tie.spec
     read-table-requires
-    zero-flat-requires
+    clear-all-requires
     same-length
     same-length-2
     same-length-3

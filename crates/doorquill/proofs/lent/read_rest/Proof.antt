@@ -4,11 +4,8 @@ use borrow.Author.Needs.{needs}
 use Rattle.doorquill.proofs.lent.read_rest.Statement.{statement}
 use Rattle.doorquill.proofs.lent.read_rest.Tie as tie
 
-mul-run-of : tie.Need-mul-run-of
-mul-run-of c = search (runs-laws, needs)
-
-run-of-requires : tie.Need-run-of-requires
-run-of-requires c κs = search (runs-laws, needs)
+references-requires : tie.Need-references-requires
+references-requires c κs = search (runs-laws, needs)
 
 first-of-requires : tie.Need-first-of-requires
 first-of-requires c κs = search (runs-laws, needs)
@@ -35,8 +32,7 @@ pub read-rest-spec : {M : Type 1} → statement M
 read-rest-spec =
     tie.close
     (tie.spec
-    mul-run-of
-    run-of-requires
+    references-requires
     first-of-requires
     doorquill-read-sections-requires
     same-length

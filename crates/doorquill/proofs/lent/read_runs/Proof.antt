@@ -4,11 +4,11 @@ use borrow.Author.Needs.{needs}
 use Rattle.doorquill.proofs.lent.read_runs.Statement.{statement}
 use Rattle.doorquill.proofs.lent.read_runs.Tie as tie
 
-run-of-requires : tie.Need-run-of-requires
-run-of-requires c κs = search (runs-laws, needs)
+least-ids-requires : tie.Need-least-ids-requires
+least-ids-requires c κs = search (runs-laws, needs)
 
-run-of-requires-2 : tie.Need-run-of-requires-2
-run-of-requires-2 c κs = search (runs-laws, needs)
+greatest-ids-requires : tie.Need-greatest-ids-requires
+greatest-ids-requires c κs = search (runs-laws, needs)
 
 read-rest-requires : tie.Need-read-rest-requires
 read-rest-requires c κs = search (runs-laws, needs)
@@ -32,8 +32,8 @@ pub read-runs-spec : {M : Type 1} → statement M
 read-runs-spec =
     tie.close
     (tie.spec
-    run-of-requires
-    run-of-requires-2
+    least-ids-requires
+    greatest-ids-requires
     read-rest-requires
     same-length
     same-length-2

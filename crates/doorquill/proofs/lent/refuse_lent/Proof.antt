@@ -4,8 +4,8 @@ use borrow.Author.Needs.{needs}
 use Rattle.doorquill.proofs.lent.refuse_lent.Statement.{statement}
 use Rattle.doorquill.proofs.lent.refuse_lent.Tie as tie
 
-zero-flat-requires : tie.Need-zero-flat-requires
-zero-flat-requires c κs = search (read-laws, needs)
+clear-all-requires : tie.Need-clear-all-requires
+clear-all-requires c κs = search (read-laws, needs)
 
 refuse-requires : tie.Need-refuse-requires
 refuse-requires c κs = search (read-laws, needs)
@@ -32,7 +32,7 @@ pub refuse-lent-spec : {M : Type 1} → statement M
 refuse-lent-spec =
     tie.close
     (tie.spec
-    zero-flat-requires
+    clear-all-requires
     refuse-requires
     same-length
     same-length-2

@@ -1,0 +1,20 @@
+-- `answers::report` meets its contract: each need follows from `report-laws`. Assumes nothing.
+use Rattle.answers.specs.Report.{report-laws}
+use borrow.Author.Needs.{needs}
+use Rattle.answers.proofs.report.Statement.{statement}
+use Rattle.answers.proofs.report.Tie as tie
+
+widen-requires : tie.Need-widen-requires
+widen-requires c κs = search (report-laws, needs)
+
+widen-requires-2 : tie.Need-widen-requires-2
+widen-requires-2 c κs = search (report-laws, needs)
+
+widen-requires-3 : tie.Need-widen-requires-3
+widen-requires-3 c κs = search (report-laws, needs)
+
+returns : tie.Need-returns
+returns c = search (report-laws, needs)
+
+pub report-spec : {M : Type 1} → statement M
+report-spec = tie.close (tie.spec widen-requires widen-requires-2 widen-requires-3 returns)

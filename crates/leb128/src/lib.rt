@@ -1,0 +1,127 @@
+// LEB128 numbers, as DWARF defines them, of at most ten bytes.
+ghost use mathlib.Core.Path.{_≡_};
+ghost use Rattle.leb128.specs.Leb128.{readUnsigned, readSigned};
+ghost use Rattle.leb128.specs.Leb128.Nine.{Nine};
+
+// What reading a number finds.
+pub enum Leb {
+    // The number, and the place after it.
+    Value(u64, usize),
+    // The input ends inside it.
+    Short,
+    // It does not fit 64 bits, or has more than ten bytes.
+    Large,
+}
+
+// The first nine bytes of a number, or fewer where it ends before.
+enum Run {
+    // It ends there: the sum of its groups, 128 to the number of them, its last byte, and the place after it.
+    Ended {
+        sum: u64,
+        power: u64,
+        last: u8,
+        next: usize,
+    },
+    // It goes on after nine: the sum of their groups, and the place of the tenth byte.
+    Open {
+        sum: u64,
+        tenth: usize,
+    },
+    // The input ends inside it.
+    Short,
+}
+
+fn nine(s: &[u8], at: usize) -> Run
+    ensures { λ r. ⌜ Nine (now (s .entry)) at r ⌝ }
+{
+    let mut sum: u64 = 0;
+    let mut power: u64 = 1;
+    let mut i = at;
+    let mut k: usize = 0;
+    while k < 9 {
+        if s.len() <= i {
+            return Run::Short;
+        }
+        let b = s[i];
+        sum += (b % 128) as u64 * power;
+        power *= 128;
+        i += 1;
+        if b < 128 {
+            return Run::Ended {
+                sum,
+                power,
+                last: b,
+                next: i,
+            };
+        }
+        k += 1;
+    }
+    Run::Open { sum, tenth: i }
+}
+
+pub fn unsigned(s: &[u8], at: usize) -> Leb
+    ensures { λ r. ⌜ r ≡ readUnsigned (now (s .entry)) at ⌝ }
+{
+    // Most numbers have one byte.
+    if at < s.len() {
+        let first = s[at];
+        if first < 128 {
+            return Leb::Value((first % 128) as u64, at + 1);
+        }
+    }
+    match nine(s, at) {
+        Run::Ended {
+            sum,
+            power: _,
+            last: _,
+            next,
+        } => Leb::Value(sum, next),
+        Run::Open { sum, tenth } => {
+            if s.len() <= tenth {
+                return Leb::Short;
+            }
+            let b = s[tenth];
+            if b <= 1 {
+                Leb::Value(sum + (b % 128) as u64 * 0x8000_0000_0000_0000, tenth + 1)
+            } else {
+                Leb::Large
+            }
+        }
+        Run::Short => Leb::Short,
+    }
+}
+
+// A signed number, as its 64 bits in two's complement.
+pub fn signed(s: &[u8], at: usize) -> Leb
+    ensures { λ r. ⌜ r ≡ readSigned (now (s .entry)) at ⌝ }
+{
+    match nine(s, at) {
+        Run::Ended {
+            sum,
+            power,
+            last,
+            next,
+        } => {
+            if last < 64 {
+                Leb::Value(sum, next)
+            } else {
+                Leb::Value(sum + (0xffff_ffff_ffff_ffff - power) + 1, next)
+            }
+        }
+        Run::Open { sum, tenth } => {
+            if s.len() <= tenth {
+                return Leb::Short;
+            }
+            let b = s[tenth];
+            if b == 0 {
+                return Leb::Value(sum, tenth + 1);
+            }
+            if b == 127 {
+                Leb::Value(sum + 0x8000_0000_0000_0000, tenth + 1)
+            } else {
+                Leb::Large
+            }
+        }
+        Run::Short => Leb::Short,
+    }
+}

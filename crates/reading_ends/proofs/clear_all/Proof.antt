@@ -1,0 +1,17 @@
+-- `reading_ends::clear_all` meets its contract: each need follows from `zero-laws`. Assumes nothing.
+use Rattle.reading_ends.specs.Reading.{zero-laws}
+use borrow.Author.Needs.{needs}
+use Rattle.reading_ends.proofs.clear_all.Statement.{statement}
+use Rattle.reading_ends.proofs.clear_all.Tie as tie
+
+clear-numbers-requires : tie.Need-clear-numbers-requires
+clear-numbers-requires c κs = search (zero-laws, needs)
+
+same-length : tie.Need-same-length
+same-length c = search (zero-laws, needs)
+
+returns : tie.Need-returns
+returns c = search (zero-laws, needs)
+
+pub clear-all-spec : {M : Type 1} → statement M
+clear-all-spec = tie.close (tie.spec clear-numbers-requires same-length returns)

@@ -1,0 +1,121 @@
+// How a reading begins and ends: zeros in what is lent, and the six numbers.
+use answers::Answer;
+use answers::clear_past;
+use answers::refused;
+use answers::report;
+use answers::widen;
+use gather::Part;
+use records::Counts;
+use slices::clear_bytes;
+use slices::clear_numbers;
+use vecstarts::fill_starts;
+ghost use mathlib.Core.Path.{_≡_};
+ghost use Prim.Native.Nat.{_≤_};
+ghost use lib.ListN.{length, take, replicate};
+ghost use Rattle.vecstarts.specs.Numbers.{Shapes, layoutFrom, filled};
+ghost use Rattle.answers.specs.Outcome.{accepted, refused, leaves};
+ghost use Rattle.reading_ends.specs.Reading.{leftOf, lentOf, Used, Ready, endedAt, Finish};
+
+// All of a working buffer of numbers becomes zero.
+pub fn clear_all(list: &mut [u32])
+    ensures { λ _. ⌜ now (list .exit) ≡ replicate (length (now (list .entry))) 0 ⌝ }
+{
+    clear_numbers(list, 0, list.len());
+}
+
+// What was used of the working buffers becomes zero, the first `n` bytes and the first `v` numbers: there are zeros past them.
+fn clear_used(room: &mut [u8], list: &mut [u32], n: usize, v: usize)
+    requires { ⌜ Used n v (now room) (now list) ⌝ }
+    ensures { λ _. ⌜ (now (room .exit) ≡ replicate (length (now (room .entry))) 0) × (now (list .exit) ≡ replicate (length (now (list .entry))) 0) ⌝ }
+{
+    clear_bytes(room, 0, n);
+    clear_numbers(list, 0, v);
+}
+
+// A refusal: every output becomes zero, and what was used of the working buffers.
+fn refuse_used(
+    events: &mut [u8],
+    values: &mut [u8],
+    room: &mut [u8],
+    list: &mut [u32],
+    n: usize,
+    v: usize,
+    number: u64,
+    place: u64,
+) -> Answer
+    requires { ⌜ Used n v (now room) (now list) ⌝ }
+    ensures { λ r. ⌜ leftOf r (now (events .exit)) (now (values .exit)) (now (room .exit)) (now (list .exit)) ≡ leaves (lentOf (now (events .entry)) (now (values .entry)) (now (room .entry)) (now (list .entry))) (refused number place) ⌝ }
+{
+    clear_past(events, 0);
+    clear_past(values, 0);
+    clear_used(room, list, n, v);
+    refused(number, place)
+}
+
+// A refusal before a reading begins: anything may stand in the working buffers, so all of them becomes zero.
+pub fn refuse(
+    events: &mut [u8],
+    values: &mut [u8],
+    room: &mut [u8],
+    list: &mut [u32],
+    number: u64,
+    place: u64,
+) -> Answer
+    ensures { λ r. ⌜ leftOf r (now (events .exit)) (now (values .exit)) (now (room .exit)) (now (list .exit)) ≡ leaves (lentOf (now (events .entry)) (now (values .entry)) (now (room .entry)) (now (list .entry))) (refused number place) ⌝ }
+{
+    let n = room.len();
+    let v = list.len();
+    refuse_used(events, values, room, list, n, v, number, place)
+}
+
+// An accepted end: what lies past the reported bytes becomes zero.
+fn accept(
+    events: &mut [u8],
+    values: &mut [u8],
+    room: &mut [u8],
+    list: &mut [u32],
+    n: usize,
+    v: usize,
+    read: usize,
+    c: Counts,
+) -> Answer
+    requires { ⌜ Ready n v (now room) (now list) (now events) (now values) c ⌝ }
+    ensures { λ r. ⌜ leftOf r (now (events .exit)) (now (values .exit)) (now (room .exit)) (now (list .exit)) ≡ leaves (lentOf (now (events .entry)) (now (values .entry)) (now (room .entry)) (now (list .entry))) (accepted read (take (c .events) (now (events .entry))) (take (c .values) (now (values .entry))) (c .steps)) ⌝ }
+{
+    clear_used(room, list, n, v);
+    clear_past(events, c.events);
+    clear_past(values, c.values);
+    report(read, c)
+}
+
+// The end of a reading that used the first `n` bytes and the first `v` numbers.
+pub fn finish(
+    events: &mut [u8],
+    values: &mut [u8],
+    room: &mut [u8],
+    list: &mut [u32],
+    n: usize,
+    v: usize,
+    part: Part,
+) -> Answer
+    requires { ⌜ Finish n v (now room) (now list) (now events) (now values) part ⌝ }
+    ensures { λ r. ⌜ leftOf r (now (events .exit)) (now (values .exit)) (now (room .exit)) (now (list .exit)) ≡ leaves (lentOf (now (events .entry)) (now (values .entry)) (now (room .entry)) (now (list .entry))) (endedAt (now (events .entry)) (now (values .entry)) part) ⌝ }
+{
+    match part {
+        Part::Went(read, c) => accept(events, values, room, list, n, v, read, c.counts),
+        Part::Out(number, place) => {
+            refuse_used(events, values, room, list, n, v, number, widen(place))
+        }
+    }
+}
+
+// Zeros in the working buffers, and where the vectors lie.
+pub fn start(mins: &[u32], maxs: &[u32], states: &[u8], room: &mut [u8], list: &mut [u32])
+    requires { ⌜ Shapes (now mins) (now maxs) (now states) × (length (now mins) ≤ length (now list)) ⌝ }
+    ensures { λ _. ⌜ (now (room .exit) ≡ replicate (length (now (room .entry))) 0) × (now (list .exit) ≡ filled (layoutFrom (now (mins .entry)) (now (maxs .entry)) (now (states .entry))) (replicate (length (now (list .entry))) 0) (length (now (mins .entry)))) ⌝ }
+{
+    let n = room.len();
+    let v = list.len();
+    clear_used(room, list, n, v);
+    fill_starts(mins, maxs, states, list);
+}
