@@ -43,7 +43,7 @@ under=$(on calls leb128 smallvec num_enum thiserror)
 {
     known=
     # Newer compilers ask to be told of names that --cfg may give.
-    if $RUSTC --print cfg --check-cfg 'cfg(append)' > /dev/null 2>&1; then known="--check-cfg cfg(append) --check-cfg cfg(feature,values(any())) --check-cfg cfg(port) --check-cfg cfg(lent) --check-cfg cfg(written) --check-cfg cfg(fake)"; fi
+    if $RUSTC --print cfg --check-cfg 'cfg(append)' > /dev/null 2>&1; then known="--check-cfg cfg(append) --check-cfg cfg(feature,values(any())) --check-cfg cfg(port) --check-cfg cfg(fake)"; fi
     rlib wellen_release shim/lib.rs $under $known
     rlib wellen_debug shim/lib.rs $under $known -C debug-assertions=on -C overflow-checks=on
     rlib wellen_append shim/lib.rs $under $known --cfg append
@@ -52,12 +52,9 @@ under=$(on calls leb128 smallvec num_enum thiserror)
     '') link= ;;
     fake)
         rlib fake src/fake.rs $(on calls)
-        link="--cfg port --cfg lent --cfg written --cfg fake $(on fake)" ;;
+        link="--cfg port --cfg fake $(on fake)" ;;
     *)
-        link="--cfg port -L native=$(dirname "$PORT") -l static=$(basename "$PORT" .a | sed 's/^lib//')"
-        # The entry over lent vector records came after the others, sections written and read back after that.
-        if grep -q doorquill_read_sections_lent "$PORT"; then link="$link --cfg lent"; fi
-        if grep -q doorquill_write_sections "$PORT"; then link="$link --cfg written"; fi ;;
+        link="--cfg port -L native=$(dirname "$PORT") -l static=$(basename "$PORT" .a | sed 's/^lib//')" ;;
     esac
     $RUSTC --edition 2021 --crate-name compare $fast ${TARGET_FLAGS:-} -L "$OUT" $known $all $link -o "$OUT/compare" "$here/src/main.rs"
 }

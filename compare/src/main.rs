@@ -7,6 +7,9 @@ mod gen;
 mod host;
 mod judge;
 mod plain;
+#[allow(dead_code)]
+#[path = "../../rust/doorquill/src/raw.rs"]
+mod raw;
 mod readings;
 mod runs;
 mod sample;
@@ -91,7 +94,7 @@ fn written(args: &[String]) -> bool {
         );
         println!("  read back as the stream itself, written again as the same bytes");
     }
-    ended(seed, started, host::Host::WRITTEN, whole.is_ok())
+    ended(seed, started, host::Host::LINKED, whole.is_ok())
 }
 
 fn limits() -> bool {

@@ -10,6 +10,8 @@ pub mod raw;
 mod reading;
 pub mod refusal;
 mod rooms;
+#[cfg(test)]
+mod smallest;
 mod tables;
 
 pub use bench::Counted;
