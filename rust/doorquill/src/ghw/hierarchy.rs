@@ -158,6 +158,7 @@ impl Hierarchy {
         let before = self.gatherer.ids();
         if what.scalars == 0 {
             self.gatherer.leaves.push(Leaf::empty(declaration));
+            return Ok(());
         }
         number(what.scalars as usize, place)?;
         types.leaves(of, 0, &mut |leaf, at| self.gatherer.leaf(cursor, types, leaf, declaration, at as u32))?;

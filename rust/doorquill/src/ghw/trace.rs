@@ -296,7 +296,17 @@ impl<'t> Signal<'t> {
         self.declaration().direction
     }
 
-    /// Its bits: of a scalar that is no `std_ulogic` and no `bit`, one.
+    /// Whether it is an array of bits, be it of one bit.
+    pub fn is_vector(&self) -> bool {
+        matches!(self.trace.types.at(self.way().1).body, Body::Array { .. })
+    }
+
+    /// Whether its values are letters, of `std_ulogic` or of `bit`: then its width counts bits.
+    pub fn has_bits(&self) -> bool {
+        matches!(self.values(), Values::NineState | Values::TwoState)
+    }
+
+    /// Its scalars: how many letters it has, and 1 where it has other values.
     pub fn width(&self) -> u32 {
         self.leaf().width
     }
