@@ -25,6 +25,8 @@ fn main() {
         println!("cargo:rustc-link-lib=static={name}");
     }
     println!("cargo:rustc-link-search=native={}", folder.display());
+    // For the tests, which link C programs with the same archives.
+    println!("cargo:rustc-env=DOORQUILL_ARCHIVES={}", folder.display());
 }
 
 fn wrong(sentence: &str) -> ! {

@@ -60,9 +60,9 @@ impl Outputs {
         if self.events == self.most_events && self.values == self.most_values {
             return None;
         }
-        let place = usize::try_from(place).unwrap_or(usize::MAX).max(1);
-        let proportion = (self.values / place).saturating_mul(self.input / 4).saturating_mul(5);
-        let values = proportion.clamp(self.values.saturating_mul(2), self.values.saturating_mul(8));
+        // At most 2^30 bytes for at most 2^24, and a quarter more of that: within 64 bits.
+        let proportion = self.values as u64 * self.input as u64 * 5 / (4 * place.clamp(1, self.input.max(1) as u64));
+        let values = (proportion as usize).clamp(2 * self.values, 8 * self.values);
         Some(Outputs { events: self.most_events, values: values.min(self.most_values), ..self })
     }
 }
@@ -122,4 +122,58 @@ pub(crate) fn zeros<T: Clone + Default>(length: usize) -> Result<Vec<T>, Refusal
     room.try_reserve_exact(length).map_err(|_| Refusal { number: 6, place: 0 })?;
     room.resize(length, T::default());
     Ok(room)
+}
+
+#[cfg(test)]
+mod tests {
+    use super::*;
+
+    fn bus(width: u32) -> Tables {
+        let mut tables = Tables::new();
+        tables.vector(States::Nine, width, 1);
+        tables
+    }
+
+    #[test]
+    fn a_narrow_file_has_all_its_room_at_once() {
+        let outputs = Outputs::of_sections(&bus(8), 1_000_000, MOST_BUFFER);
+        assert_eq!(outputs.values, 4_000_000);
+        assert_eq!(outputs.events, 6_500_000 + 13 * 28);
+        let more = outputs.after_full(999_999).unwrap();
+        assert_eq!((more.events, more.values), (13_000_000, 4_000_000));
+        assert_eq!(more.after_full(999_999), None);
+    }
+
+    #[test]
+    fn a_wide_file_begins_small_and_goes_on_by_the_place() {
+        let first = Outputs::of_sections(&bus(4096), 1_000_000, MOST_BUFFER);
+        assert_eq!(first.values, 4_065_536);
+        // Full at a third of the input: a quarter more than three times as much is asked for.
+        let more = first.after_full(333_333).unwrap();
+        assert!((3 * first.values..4 * first.values).contains(&more.values), "{more:?}");
+        // Full at once, or at the end: at most eight times, at least twice.
+        assert_eq!(first.after_full(0).unwrap().values, 8 * first.values);
+        assert_eq!(first.after_full(1_000_000).unwrap().values, 2 * first.values);
+        // Never more than the limit, and there it ends.
+        let mut last = first;
+        while let Some(more) = last.after_full(10) {
+            last = more;
+        }
+        assert_eq!(last.values, MOST_BUFFER);
+    }
+
+    #[test]
+    fn no_room_for_an_input_over_the_limit() {
+        let outputs = Outputs::of_sections(&bus(4096), MOST_SECTION_BYTES + 1, MOST_BUFFER);
+        assert_eq!((outputs.events, outputs.values), (0, 65_536));
+        assert_eq!((sections_written(usize::MAX), read_back(&bus(1), usize::MAX)), (32, 0));
+    }
+
+    #[test]
+    fn working_room_is_what_check_6_asks_for() {
+        assert_eq!((working(&Tables::new()), list(&Tables::new())), (0, 0));
+        assert_eq!(working(&bus(9)), 5 + 2 + 2);
+        let vast = Tables { mins: vec![0; 9], maxs: vec![u32::MAX; 9], states: vec![0; 9], ..Tables::new() };
+        assert_eq!(working(&vast), MOST_WORKING_ROOM);
+    }
 }

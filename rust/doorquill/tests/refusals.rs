@@ -45,7 +45,7 @@ fn the_page_is_the_table() {
     if std::env::var_os("DOORQUILL_WRITE").is_some() {
         std::fs::write(&path, page()).unwrap();
     }
-    assert_eq!(std::fs::read_to_string(path).unwrap(), page());
+    assert!(std::fs::read_to_string(path).unwrap() == page(), "the page is to be written again");
 }
 
 #[test]
