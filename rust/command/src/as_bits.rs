@@ -35,7 +35,8 @@ pub fn as_bits(reading: &Reading, lines: &[Line]) -> Result<Reading, String> {
                 }
             }
         };
-        let start = u32::try_from(values.len()).map_err(|_| "more value bytes than an event can point to".to_string())?;
+        let start =
+            u32::try_from(values.len()).map_err(|_| "more value bytes than an event can point to".to_string())?;
         events.push(kind);
         events.extend(reference.to_be_bytes());
         events.extend(start.to_be_bytes());
@@ -59,7 +60,10 @@ fn two_state(bytes: &[u8], shown: &Shown, time: u64) -> Result<Vec<u8>, String> 
                     1 => shown.path.clone(),
                     _ => format!("bit {bit} of {}", shown.path),
                 };
-                return Err(format!("{whose} is {other} at {}: --as-bits takes 0, L, 1 and H alone", times::text(time)));
+                return Err(format!(
+                    "{whose} is {other} at {}: --as-bits takes 0, L, 1 and H alone",
+                    times::text(time)
+                ));
             }
         }
     }

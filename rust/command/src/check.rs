@@ -1,5 +1,5 @@
 //! `doorquill check`: everything is read; what is wrong, or the figures of the file.
-use crate::file::{thousands, File};
+use crate::file::{some, thousands, File};
 use crate::json::Object;
 use crate::options::Options;
 use crate::stop::Stop;
@@ -12,43 +12,121 @@ use std::io::Write;
 pub fn run(options: &Options, work: &mut Work, out: &mut dyn Write, err: &mut dyn Write) -> Result<(), Stop> {
     let file = File::load(&options.file)?;
     let trace = file.open(work)?;
-    let reading = file.read(&trace, options, work, err)?;
+    let (reading, salvaged) = file.read(&trace, options, work, err)?;
     let kept = work.part("time rule", &file.name, || reading.time_rule());
     let kept = kept.map_err(|refusal| Stop::Refused(format!("{}: the time rule: {refusal}", file.name)))?;
-    let names = Names::of(&trace);
-    let counts = Counts::of(&reading);
-    let kept = Counts::of(&kept);
-    if options.json {
-        writeln!(out, "{}", object(&file, &trace, &reading, &names, &counts, &kept))?;
-        return Ok(());
-    }
-    let n = |number: usize| thousands(number as u64);
-    let order = if trace.big_endian() { "big-endian" } else { "little-endian" };
-    writeln!(out, "{}: good", file.name)?;
-    writeln!(out, "  bytes     {}: {} before the sections, {} of sections, {order}", thousands(file.length), n(trace.sections_at()), n(trace.sections().len()))?;
-    let behind = trace.sections().len() as u64 - reading.bytes_read().min(trace.sections().len() as u64);
-    if behind > 0 && !options.salvage {
-        writeln!(out, "            {} behind the tailer are not read", thousands(behind))?;
-    }
-    writeln!(out, "  names     {} signals in {} scopes: {} with events of their own, {} aliases, {} slices, {} bits, {} scattered, {} empty",
-        n(names.all), n(trace.scopes().count()), n(names.own), n(names.aliases), n(names.slices), n(names.bits), n(names.scattered), n(names.empty))?;
-    writeln!(out, "  tables    {} ids, {} vectors", n(trace.ids()), n(trace.tables().vectors()))?;
-    writeln!(out, "  steps     {}{}", thousands(counts.times), counts.span())?;
-    writeln!(out, "  events    {}: {} two-state, {} nine-state, {} real", thousands(counts.values()), thousands(counts.two), thousands(counts.nine), thousands(counts.reals))?;
-    writeln!(out, "  time rule {} steps and {} events kept", thousands(kept.times), thousands(kept.values()))?;
+    let figures = Figures {
+        file: &file,
+        trace: &trace,
+        salvaged,
+        bytes_read: reading.bytes_read(),
+        names: Names::of(&trace),
+        counts: Counts::of(&reading),
+        kept: Counts::of(&kept),
+    };
+    let text = if options.json { figures.object() } else { figures.text() };
+    writeln!(out, "{text}")?;
     Ok(())
+}
+
+/// All that is said of a file that is good.
+struct Figures<'a> {
+    file: &'a File,
+    trace: &'a Trace<'a>,
+    salvaged: bool,
+    bytes_read: u64,
+    names: Names,
+    counts: Counts,
+    kept: Counts,
+}
+
+impl Figures<'_> {
+    fn text(&self) -> String {
+        let Figures { file, trace, names, counts, kept, .. } = self;
+        let sections = trace.sections().len() as u64;
+        let good = if self.salvaged { "cut; what was salvaged is good" } else { "good" };
+        let order = if trace.big_endian() { "big-endian" } else { "little-endian" };
+        let before = thousands(trace.sections_at() as u64);
+        let mut bytes = format!(
+            "{}: {before} before the sections, {} of sections, {order}",
+            thousands(file.length),
+            thousands(sections)
+        );
+        if self.bytes_read < sections && !self.salvaged {
+            bytes += &format!("; {} behind the tailer, not read", thousands(sections - self.bytes_read));
+        }
+        let related = [
+            format!("{} with events of their own", thousands(names.own)),
+            some(names.aliases, "alias"),
+            some(names.slices, "slice"),
+            some(names.bits, "bit"),
+            format!("{} scattered", thousands(names.scattered)),
+            format!("{} empty", thousands(names.empty)),
+        ];
+        let scopes = some(trace.scopes().count() as u64, "scope");
+        let events = [
+            format!("{} two-state", thousands(counts.two)),
+            format!("{} nine-state", thousands(counts.nine)),
+            format!("{} real", thousands(counts.reals)),
+        ];
+        let lines = [
+            format!("{}: {good}", file.name),
+            format!("  bytes      {bytes}"),
+            format!("  names      {} in {scopes}: {}", some(names.all, "signal"), related.join(", ")),
+            format!(
+                "  tables     {}, {}",
+                some(trace.ids() as u64, "id"),
+                some(trace.tables().vectors() as u64, "vector")
+            ),
+            format!("  steps      {}{}", thousands(counts.times), counts.span()),
+            format!("  events     {}: {}", thousands(counts.values()), events.join(", ")),
+            format!("  time rule  {} and {} kept", some(kept.times, "step"), some(kept.values(), "event")),
+        ];
+        lines.join("\n")
+    }
+
+    fn object(&self) -> String {
+        let Figures { file, trace, names, counts, kept, .. } = self;
+        Object::new()
+            .text("file", &file.name)
+            .plain("salvaged", self.salvaged)
+            .plain("bytes", file.length)
+            .plain("sections_at", trace.sections_at())
+            .plain("section_bytes", trace.sections().len())
+            .plain("section_bytes_read", self.bytes_read)
+            .plain("big_endian", trace.big_endian())
+            .plain("scopes", trace.scopes().count())
+            .plain("signals", names.all)
+            .plain("own", names.own)
+            .plain("aliases", names.aliases)
+            .plain("slices", names.slices)
+            .plain("bits", names.bits)
+            .plain("scattered", names.scattered)
+            .plain("empty", names.empty)
+            .plain("ids", trace.ids())
+            .plain("vectors", trace.tables().vectors())
+            .plain("steps", counts.times)
+            .maybe("first_time_fs", counts.first)
+            .maybe("highest_time_fs", counts.highest)
+            .plain("two_state_events", counts.two)
+            .plain("nine_state_events", counts.nine)
+            .plain("real_events", counts.reals)
+            .plain("kept_steps", kept.times)
+            .plain("kept_events", kept.values())
+            .line()
+    }
 }
 
 /// How the names stand to each other.
 #[derive(Default)]
 struct Names {
-    all: usize,
-    own: usize,
-    aliases: usize,
-    slices: usize,
-    bits: usize,
-    scattered: usize,
-    empty: usize,
+    all: u64,
+    own: u64,
+    aliases: u64,
+    slices: u64,
+    bits: u64,
+    scattered: u64,
+    empty: u64,
 }
 
 impl Names {
@@ -108,33 +186,4 @@ impl Counts {
             _ => String::new(),
         }
     }
-}
-
-fn object(file: &File, trace: &Trace, reading: &Reading, names: &Names, counts: &Counts, kept: &Counts) -> String {
-    Object::new()
-        .text("file", &file.name)
-        .plain("bytes", file.length)
-        .plain("sections_at", trace.sections_at())
-        .plain("section_bytes", trace.sections().len())
-        .plain("section_bytes_read", reading.bytes_read())
-        .plain("big_endian", trace.big_endian())
-        .plain("scopes", trace.scopes().count())
-        .plain("signals", names.all)
-        .plain("own", names.own)
-        .plain("aliases", names.aliases)
-        .plain("slices", names.slices)
-        .plain("bits", names.bits)
-        .plain("scattered", names.scattered)
-        .plain("empty", names.empty)
-        .plain("ids", trace.ids())
-        .plain("vectors", trace.tables().vectors())
-        .plain("steps", counts.times)
-        .maybe("first_time_fs", counts.first)
-        .maybe("highest_time_fs", counts.highest)
-        .plain("two_state_events", counts.two)
-        .plain("nine_state_events", counts.nine)
-        .plain("real_events", counts.reals)
-        .plain("kept_steps", kept.times)
-        .plain("kept_events", kept.values())
-        .line()
 }

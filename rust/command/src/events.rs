@@ -15,7 +15,7 @@ pub fn run(options: &Options, work: &mut Work, out: &mut dyn Write, err: &mut dy
     let file = File::load(&options.file)?;
     let trace = file.open(work)?;
     let shown = shown(&file, &trace, options)?;
-    let reading = file.read(&trace, options, work, err)?;
+    let (reading, _) = file.read(&trace, options, work, err)?;
     if options.raw {
         return raw(&reading, &shown, options, out);
     }
@@ -106,7 +106,9 @@ fn raw(reading: &Reading, shown: &ByReference, options: &Options, out: &mut dyn 
         match event {
             Event::Time(now) => writeln!(out, "time {now}")?,
             Event::Value { reference, states: States::Two, bytes } => writeln!(out, "two {reference} {}", hex(bytes))?,
-            Event::Value { reference, states: States::Nine, bytes } => writeln!(out, "nine {reference} {}", hex(bytes))?,
+            Event::Value { reference, states: States::Nine, bytes } => {
+                writeln!(out, "nine {reference} {}", hex(bytes))?
+            }
             Event::Real { reference, value } => writeln!(out, "real {reference} {:016x}", value.to_bits())?,
         }
     }

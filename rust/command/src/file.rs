@@ -50,14 +50,14 @@ impl File {
         })
     }
 
-    /// Reads the sections by the proved call; where the options say so, those of a cut file up to its last whole step.
+    /// Reads the sections by the proved call; where the options say so, those of a cut file up to its last whole step. Whether that was done comes with it.
     pub fn read(
         &self,
         trace: &Trace,
         options: &Options,
         work: &mut Work,
         err: &mut dyn Write,
-    ) -> Result<Reading, Stop> {
+    ) -> Result<(Reading, bool), Stop> {
         self.limits(trace)?;
         let mut read = |sections: &[u8]| {
             work.part("reading", &self.name, || read_sections(trace.tables(), trace.big_endian(), sections))
@@ -67,7 +67,7 @@ impl File {
                 if options.salvage {
                     let _ = writeln!(err, "{}: the file is whole: there is nothing to salvage", self.name);
                 }
-                return Ok(reading);
+                return Ok((reading, false));
             }
             Err(refusal) => refusal,
         };
@@ -88,20 +88,21 @@ impl File {
             }
         };
         let _ = writeln!(err, "{}", self.salvaged(trace, &met, whole));
-        read(&closed(trace.sections(), whole)).map_err(|refusal| {
+        let reading = read(&closed(trace.sections(), whole)).map_err(|refusal| {
             let text = refused::head(&self.name, refusal.number);
             Stop::Refused(format!("{text}\n  at {} of what was salvaged", refusal.place))
-        })
+        })?;
+        Ok((reading, true))
     }
 
     fn salvaged(&self, trace: &Trace, met: &Walk, whole: Whole) -> String {
         format!(
-            "{}: {}\n  salvaged: steps 1 to {}, up to {}; the last {} bytes of the file are left out",
+            "{}: {}\n  salvaged: steps 1 to {}, up to {}; left out: the last {} of the file",
             self.name,
             refused::cut(met),
             thousands(whole.step),
             times::text(whole.time),
-            thousands((trace.sections().len() - whole.end) as u64),
+            some((trace.sections().len() - whole.end) as u64, "byte"),
         )
     }
 
@@ -144,6 +145,16 @@ fn crowded(trace: &Trace) -> String {
         true => String::new(),
         false => format!("\n  most signals: {}", most.join(", ")),
     }
+}
+
+/// So many of something: `1 slice`, `2 aliases`.
+pub fn some(count: u64, what: &str) -> String {
+    let more = match (count, what.ends_with('s')) {
+        (1, _) => "",
+        (_, true) => "es",
+        (_, false) => "s",
+    };
+    format!("{} {what}{more}", thousands(count))
 }
 
 /// A number with commas.

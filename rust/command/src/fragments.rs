@@ -1,6 +1,6 @@
 //! `doorquill fragments`: which session each fragment belongs to.
 use crate::as_bits::{as_bits, Line};
-use crate::file::{thousands, File};
+use crate::file::{some, thousands, File};
 use crate::json::Object;
 use crate::names::with_events;
 use crate::options::Options;
@@ -17,7 +17,7 @@ pub fn run(options: &Options, work: &mut Work, out: &mut dyn Write, err: &mut dy
     let file = File::load(&options.file)?;
     let trace = file.open(work)?;
     let lines = Lines::find(&file, &trace, options)?;
-    let reading = file.read(&trace, options, work, err)?;
+    let (reading, _) = file.read(&trace, options, work, err)?;
     let kept = work.part("time rule", &file.name, || reading.time_rule());
     let mut kept = kept.map_err(|refusal| Stop::Refused(format!("{}: the time rule: {refusal}", file.name)))?;
     drop(reading);
@@ -44,7 +44,7 @@ struct Lines {
     nine: bool,
 }
 
-const ROLES: [&str; 3] = ["session", "strobe", "close"];
+const ROLES: [&str; 3] = ["session", "strobe", "close line"];
 
 impl Lines {
     fn find(file: &File, trace: &Trace, options: &Options) -> Result<Lines, Stop> {
@@ -61,7 +61,10 @@ impl Lines {
         for (one, other) in [(0, 1), (0, 2), (1, 2)] {
             if references[one] == references[other] {
                 let (a, b) = (ROLES[one], ROLES[other]);
-                return Err(refuse(format!("{a} and {b} are one signal, {}: they must be three", found[one].path())));
+                return Err(refuse(format!(
+                    "the {a} and the {b} are one signal, {}: they must be three",
+                    found[one].path()
+                )));
             }
         }
         let nine = found.iter().any(|signal| signal.values() == Values::NineState);
@@ -159,13 +162,6 @@ impl Balance {
 
 const OUTSIDE: &str = "as bits: std_logic lines were turned into bits by the host; this step is outside the proof";
 
-fn count_text(count: u64) -> String {
-    match count {
-        1 => "1 fragment".into(),
-        count => format!("{} fragments", thousands(count)),
-    }
-}
-
 fn texts(counted: &[Counted], balance: &Balance, lines: &Lines, out: &mut dyn Write) -> Result<(), Stop> {
     if lines.nine {
         writeln!(out, "{OUTSIDE}")?;
@@ -176,12 +172,12 @@ fn texts(counted: &[Counted], balance: &Balance, lines: &Lines, out: &mut dyn Wr
                 writeln!(out, "fragment {:>12}  session {}", times::text(time), lines.session(session))?
             }
             Counted::Closed { time, session, count } => {
-                let (time, count) = (times::text(time), count_text(count));
+                let (time, count) = (times::text(time), some(count, "fragment"));
                 writeln!(out, "closed   {time:>12}  session {}  {count} handed out", lines.session(session))?
             }
             Counted::Held { session, count } => {
                 let end = "at the end";
-                writeln!(out, "held     {end:>12}  session {}  {}", lines.session(session), count_text(count))?
+                writeln!(out, "held     {end:>12}  session {}  {}", lines.session(session), some(count, "fragment"))?
             }
         }
     }
@@ -196,9 +192,10 @@ fn objects(counted: &[Counted], balance: &Balance, lines: &Lines, out: &mut dyn 
     }
     for record in counted {
         let line = match *record {
-            Counted::Fragment { time, session } => {
-                object("fragment").plain("time_fs", time).plain("session", session).text("shown", &lines.session(session))
-            }
+            Counted::Fragment { time, session } => object("fragment")
+                .plain("time_fs", time)
+                .plain("session", session)
+                .text("shown", &lines.session(session)),
             Counted::Closed { time, session, count } => object("closed")
                 .plain("time_fs", time)
                 .plain("session", session)
@@ -250,20 +247,26 @@ fn answer(counted: &[Counted], at: u64, json: bool, lines: &Lines, out: &mut dyn
     let one = |(time, session): (u64, u32)| format!("{}, of session {}", times::text(time), lines.session(session));
     let at = times::text(at);
     match (here, before, after) {
-        (Some((_, session)), ..) => writeln!(out, "The fragment at {at} belongs to session {}.", lines.session(session))?,
+        (Some((_, session)), ..) => {
+            writeln!(out, "The fragment at {at} belongs to session {}.", lines.session(session))?
+        }
         (None, Some(b), Some(a)) => writeln!(
             out,
             "There is no fragment at {at}: the last before it is at {}, the next after it at {}.",
             one(b),
             one(a)
         )?,
-        (None, Some(b), None) => {
-            writeln!(out, "There is no fragment at {at}: the last before it is at {}, and none comes after it.", one(b))?
-        }
+        (None, Some(b), None) => writeln!(
+            out,
+            "There is no fragment at {at}: the last before it is at {}, and none comes after it.",
+            one(b)
+        )?,
         (None, None, Some(a)) => {
             writeln!(out, "There is no fragment at {at}: none came before it, and the next after it is at {}.", one(a))?
         }
-        (None, None, None) => writeln!(out, "There is no fragment at {at}, nor at any other time: the strobe never rises.")?,
+        (None, None, None) => {
+            writeln!(out, "There is no fragment at {at}, nor at any other time: the strobe never rises.")?
+        }
     }
     Ok(())
 }

@@ -30,7 +30,8 @@ pub fn with_events<'t>(file: &str, trace: &'t Trace, path: &str) -> Result<Signa
         }
         Relation::Scattered => {
             let next = trace.signals().nth(signal.number() + 1);
-            let first = next.map_or(String::new(), |element| format!(": ask for its elements, {} and so on", element.path()));
+            let first =
+                next.map_or(String::new(), |element| format!(": ask for its elements, {} and so on", element.path()));
             format!("is scattered over signals that are not neighbours, and has no events of its own{first}")
         }
         Relation::Empty => "has no bits, and so no events".into(),

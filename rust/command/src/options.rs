@@ -154,9 +154,7 @@ impl Given {
             Some("check") => Ok(Which::Check),
             Some("explain") => Ok(Which::Explain),
             Some("help") => Ok(Which::Help),
-            Some(other) => Err(Stop::Usage(format!(
-                "'{other}' is none of signals, events, fragments, check, explain"
-            ))),
+            Some(other) => Err(Stop::Usage(format!("'{other}' is none of signals, events, fragments, check, explain"))),
             None => Err(Stop::Usage("say what to do: signals, events, fragments, check or explain".into())),
         }
     }
@@ -212,14 +210,14 @@ impl Given {
             return usage(format!("{word:?} is one word too many (a time with a space wants quotes: '25 ns')"));
         }
         if which == Which::Fragments {
-            for (name, path) in [
-                ("session", &mut options.session),
-                ("strobe", &mut options.strobe),
-                ("close", &mut options.close),
-            ] {
+            for (name, path) in
+                [("session", &mut options.session), ("strobe", &mut options.strobe), ("close", &mut options.close)]
+            {
                 match self.value(name) {
                     Some(value) => *path = value.clone(),
-                    None => return usage(format!("fragments wants --{name} PATH (doorquill signals FILE lists the paths)")),
+                    None => {
+                        return usage(format!("fragments wants --{name} PATH (doorquill signals FILE lists the paths)"))
+                    }
                 }
             }
         }

@@ -1,5 +1,5 @@
 //! `doorquill signals`: what the file has, by name.
-use crate::file::{thousands, File};
+use crate::file::{some, File};
 use crate::json::Object;
 use crate::names::{self, fits};
 use crate::options::Options;
@@ -26,7 +26,8 @@ pub fn run(options: &Options, work: &mut Work, out: &mut dyn Write, err: &mut dy
         }
     }
     if let (0, Some(pattern)) = (found, &options.pattern) {
-        let near = names::nearest(&trace, pattern).map_or("the file has none at all".into(), |near| format!("the nearest is {near}"));
+        let near = names::nearest(&trace, pattern)
+            .map_or("the file has none at all".into(), |near| format!("the nearest is {near}"));
         return Err(Stop::Refused(format!("{}: no signal fits '{pattern}'; {near}", file.name)));
     }
     for signal in trace.signals() {
@@ -37,17 +38,13 @@ pub fn run(options: &Options, work: &mut Work, out: &mut dyn Write, err: &mut dy
         }
     }
     if !options.json {
-        let _ = writeln!(err, "{}: {} signals", file.name, thousands(found));
+        let _ = writeln!(err, "{}: {}", file.name, some(found, "signal"));
     }
     Ok(())
 }
 
 fn line(signal: Signal, path: &str, (paths, types): (usize, usize)) -> String {
-    let width = match signal.width() {
-        1 => "1 bit".to_string(),
-        width => format!("{width} bits"),
-    };
-    let width = if signal.has_bits() { width } else { String::new() };
+    let width = if signal.has_bits() { some(u64::from(signal.width()), "bit") } else { String::new() };
     let reference = signal.reference().map_or("no reference".into(), |reference| format!("reference {reference}"));
     let start = format!(
         "{path:paths$}  {:7}  {:types$}  {width:>8}  {reference:14}{}",

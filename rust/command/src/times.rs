@@ -74,7 +74,20 @@ mod tests {
         }
         assert_eq!(parse("1.5us"), Ok(1_500_000_000));
         assert_eq!(parse("1 hr"), Ok(3_600_000_000_000_000_000));
-        let wrong = ["", "ns", "25 parsecs", "1.2.3ns", ".5ns", "5.ns", "-1ns", "1e3ns", "0.5", "0.1 fs", "6hr", "99999999999999999999"];
+        let wrong = [
+            "",
+            "ns",
+            "25 parsecs",
+            "1.2.3ns",
+            ".5ns",
+            "5.ns",
+            "-1ns",
+            "1e3ns",
+            "0.5",
+            "0.1 fs",
+            "6hr",
+            "99999999999999999999",
+        ];
         for typed in wrong {
             assert!(parse(typed).is_err(), "{typed}");
         }

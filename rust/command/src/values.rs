@@ -3,8 +3,7 @@ use doorquill::ghw::{Signal, Values};
 use doorquill::{Event, States};
 
 /// The crate's nine states by their numbers, as letters of VHDL.
-const LETTERS: [char; 16] =
-    ['0', '1', 'X', 'Z', 'H', 'U', 'W', 'L', '-', '?', '?', '?', '?', '?', '?', '?'];
+const LETTERS: [char; 16] = ['0', '1', 'X', 'Z', 'H', 'U', 'W', 'L', '-', '?', '?', '?', '?', '?', '?', '?'];
 
 /// What is needed to show a signal's values.
 pub struct Shown {

@@ -150,7 +150,10 @@ impl Hierarchy {
             return form(place, format!("a signal of {}, which has no bounds", types.name(strings, of)));
         }
         if what.scalars > cursor.left() as u64 {
-            return form(place, format!("a signal of {} scalars in the {} bytes that are left", what.scalars, cursor.left()));
+            return form(
+                place,
+                format!("a signal of {} scalars in the {} bytes that are left", what.scalars, cursor.left()),
+            );
         }
         let declaration = number(self.declarations.len(), place)?;
         let leaves = number(self.gatherer.leaves.len(), place)?;

@@ -327,7 +327,9 @@ impl<'t> Signal<'t> {
         let leaf = self.leaf();
         let leaves = &self.trace.hierarchy.gatherer.leaves;
         match leaf.role {
-            Role::Scattered => leaves.iter().skip(self.index as usize + 1).take(leaf.width as usize).map(|l| l.first).collect(),
+            Role::Scattered => {
+                leaves.iter().skip(self.index as usize + 1).take(leaf.width as usize).map(|l| l.first).collect()
+            }
             _ => (leaf.first..).take(leaf.width as usize).collect(),
         }
     }
@@ -380,7 +382,9 @@ impl<'t> Signal<'t> {
     /// The units of a physical type, and what each counts for; of other types none.
     pub fn units(&self) -> Vec<(String, i64)> {
         match self.scalar() {
-            Body::Physical { units } => units.iter().map(|&(name, value)| (self.trace.strings.text(name), value)).collect(),
+            Body::Physical { units } => {
+                units.iter().map(|&(name, value)| (self.trace.strings.text(name), value)).collect()
+            }
             _ => vec![],
         }
     }

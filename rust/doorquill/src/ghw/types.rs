@@ -53,20 +53,44 @@ pub(super) struct Field {
 /// What a type is.
 #[derive(Clone, Debug)]
 pub(super) enum Body {
-    Enumeration { literals: Vec<u32>, letters: Letters },
+    Enumeration {
+        literals: Vec<u32>,
+        letters: Letters,
+    },
     Integer,
     Real,
-    Physical { units: Vec<(u32, i64)> },
+    Physical {
+        units: Vec<(u32, i64)>,
+    },
     /// A subtype of a scalar; `root` is no subtype.
-    Scalar { base: usize, root: usize, range: Range },
+    Scalar {
+        base: usize,
+        root: usize,
+        range: Range,
+    },
     /// An array without bounds, by a type for each dimension.
-    Open { element: usize, indices: Vec<usize> },
+    Open {
+        element: usize,
+        indices: Vec<usize>,
+    },
     /// An array with bounds; `root` is the open one.
-    Array { base: usize, root: usize, element: usize, ranges: Vec<Range> },
+    Array {
+        base: usize,
+        root: usize,
+        element: usize,
+        ranges: Vec<Range>,
+    },
     /// A record. Of its elements only those that have scalars; `ends` counts the scalars up to each one's end. `all` are all of them, where some are open.
-    Record { base: Option<usize>, fields: Vec<Field>, ends: Vec<u64>, all: Option<Vec<Field>> },
+    Record {
+        base: Option<usize>,
+        fields: Vec<Field>,
+        ends: Vec<u64>,
+        all: Option<Vec<Field>>,
+    },
     /// Another name for an open array or record.
-    Renamed { root: usize },
+    Renamed {
+        root: usize,
+    },
 }
 
 /// A type, with what it comes to.
@@ -503,7 +527,10 @@ fn range(cursor: &mut Cursor) -> Result<Range, HeaderError> {
 fn letters(literals: &[u32], strings: &Strings) -> Letters {
     let are = |wanted: &str| {
         literals.len() == wanted.len()
-            && literals.iter().zip(wanted.chars()).all(|(&number, letter)| strings.text(number) == format!("'{letter}'"))
+            && literals
+                .iter()
+                .zip(wanted.chars())
+                .all(|(&number, letter)| strings.text(number) == format!("'{letter}'"))
     };
     if are("UX01ZWLH-") {
         Letters::Nine
