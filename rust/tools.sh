@@ -1,6 +1,9 @@
 # Read by the scripts of this folder, with `root` and `out` set: installs what building for x86-64 needs, and defines
 #   cargo ..     cargo with Debian's copy of the one crate that is not ours, and the flags for this machine
 #   under ..     runs an x86-64 program
+#   built KIND   the folder where cargo puts programs of that kind, debug or release
+#   static_flags sets what links programs without a library of the system
+#   prefix       what stands before the names of the tools for x86-64
 #   archives     makes the proved archives where `rt` is at hand, and sets DOORQUILL_LIB to their folder
 #   left_out ..  ends the script with a message and status 0
 log=$out/install.log
@@ -31,7 +34,7 @@ command -v dpkg-query > /dev/null || left_out "a machine without Debian's packag
 across=''
 case $(uname -m) in
 x86_64)
-    emulator=''
+    emulator='' prefix=''
     need=$(missing librust-lexopt-dev)
     command -v cargo > /dev/null || need="$need cargo rustc"
     command -v cc > /dev/null || need="$need gcc libc6-dev"
@@ -41,7 +44,7 @@ x86_64)
     cargo=$(command -v cargo)
     ;;
 aarch64)
-    emulator=qemu-x86_64
+    emulator=qemu-x86_64 prefix=x86_64-linux-gnu-
     dpkg --print-foreign-architectures | grep -qx amd64 || { [ "$(id -u)" -eq 0 ] && dpkg --add-architecture amd64; } ||
         left_out "the packages of amd64 can't be asked for"
     need=$(missing cargo rustc gcc libc6-dev libstd-rust-dev:amd64 gcc-x86-64-linux-gnu g++-x86-64-linux-gnu libc6-dev-amd64-cross qemu-user libc6:amd64 libgcc-s1:amd64 librust-lexopt-dev)
@@ -67,6 +70,19 @@ cargo() {
 }
 
 under() { $emulator "$@"; }
+
+built() { echo "$out/${CARGO_BUILD_TARGET:+$CARGO_BUILD_TARGET/}$1"; }
+
+static_flags() {
+    RUSTFLAGS="-C target-feature=+crt-static --remap-path-prefix $root=doorquill"
+    # The cross package's libm.a names its two parts by where they would lie on an x86-64 machine: the first of them is all that is asked for.
+    if [ -n "$prefix" ]; then
+        mkdir -p "$out/libm"
+        ln -sf "$(dirname "$("${prefix}gcc" -print-file-name=libm.a)")"/libm-*.a "$out/libm/libm.a"
+        RUSTFLAGS="$RUSTFLAGS -L native=$out/libm"
+    fi
+    export RUSTFLAGS
+}
 
 archives() {
     DOORQUILL_LIB=$root/target/staticlib

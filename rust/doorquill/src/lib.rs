@@ -51,8 +51,8 @@
 //!
 //! # Linking
 //!
-//! `build.rs` takes `libdoorquill.a` and `libbench.a` from the folder that `DOORQUILL_LIB` names, else from `target/staticlib` at the repository's top. They are for x86-64
-//! Linux. The calls keep no state: readings may be made in as many threads as one likes.
+//! `build.rs` takes the proved archives from the folder that `DOORQUILL_LIB` names, else from `target/staticlib` at the repository's top or from `lib` of a release. They are for
+//! x86-64 Linux. The calls keep no state: readings may be made in as many threads as one likes.
 #![deny(unsafe_code)]
 #![warn(missing_docs)]
 

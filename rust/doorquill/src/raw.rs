@@ -1,4 +1,4 @@
-//! The proved calls as the archives have them: `libdoorquill.a` and, for [`doorquill_bench`], `libbench.a`.
+//! The proved calls as the archives have them: `libdoorquill.a` and, for [`doorquill_bench`], `libbench.a`; in a release all in one.
 //!
 //! These are the only declarations of the calls in the repository; `compare/` takes this very file, so that every comparison holds them to
 //! the port. A slice is a pointer and a length; an empty one may have any pointer. No call allocates, keeps state or blocks, and a call reads and

@@ -31,7 +31,7 @@ fn built(compiler: &str, linker: &str, source: &Path, language: &[&str], name: &
     compile.arg(format!("{TOP}/include")).arg(source).arg("-o").arg(&object);
     done(compile);
     let mut link = Command::new(linker);
-    link.arg(&object).args(["-L", env!("DOORQUILL_ARCHIVES"), "-ldoorquill", "-lbench", "-o"]).arg(&program);
+    link.arg(&object).args(env!("DOORQUILL_ARCHIVES").split(':')).arg("-o").arg(&program);
     done(link);
     program
 }
