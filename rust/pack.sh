@@ -2,7 +2,6 @@
 # Packs a release from what is committed and from the proved archives: DIST/doorquill-VERSION-x86_64-linux.tar.gz. `release` at the repository's top calls it after the gate.
 #   pack.sh DIST GATE TOOLCHAIN     the last two go on the release's page
 #   DOORQUILL_LIB   the folder with the proved archives (default: target/staticlib)
-#   SAMPLES         real files to go with it (default: ../shared/samples beside the repository)
 #   OUT             where cargo builds (default: target/rust)
 set -eu
 here=$(cd "$(dirname "$0")" && pwd)
@@ -10,7 +9,6 @@ root=$(dirname "$here")
 dist=$1 gate=$2 toolchain=$3
 out=${OUT:-$root/target/rust}
 export DOORQUILL_LIB="${DOORQUILL_LIB:-$root/target/staticlib}"
-samples=${SAMPLES:-$root/../shared/samples}
 mkdir -p "$out" "$dist"
 dist=$(cd "$dist" && pwd)
 . "$here/tools.sh"
@@ -20,10 +18,11 @@ commit=$(git -C "$root" rev-parse HEAD)
 name=doorquill-$version-x86_64-linux
 made=$dist/$name
 rm -rf "$made" "$made.tar.gz"
-mkdir -p "$made/lib" "$made/bin" "$made/samples"
+mkdir -p "$made/lib" "$made/bin"
 
-# What is committed: the crate, the command's source, the file for wellen; the header; the pages that they name.
-git -C "$root" archive HEAD NOTICE include docs/REFUSALS.md docs/DIFFERENCES.md rust ':!rust/*.sh' ':!rust/*/tests' | tar -x -C "$made"
+# What is committed: the crate, the command's source, the file for wellen; the header; the pages that they name; the samples.
+git -C "$root" archive HEAD NOTICE include docs/REFUSALS.md docs/DIFFERENCES.md rust ':!rust/*.sh' ':!rust/*/tests/*' | tar -x -C "$made"
+mv "$made/rust/samples" "$made/samples"
 
 # The command, without a library of the system.
 (cd "$here" && static_flags && cargo build -q --release --locked -p doorquill-command)
@@ -36,16 +35,6 @@ cp "$(built release)/doorquill" "$made/bin/"
     echo save
     echo end
 } | "${prefix}ar" -M
-
-found=
-for file in "$samples"/*.ghw; do
-    [ -f "$file" ] && cp "$file" "$made/samples/" && found=1
-done
-[ -n "$found" ] || {
-    echo "release: no .ghw file in $samples" >&2
-    exit 1
-}
-chmod -R u+w,go+r "$made/samples"
 
 compiler=$("${RUSTC:-rustc}" --version)
 cat > "$made/README.md" << PAGE

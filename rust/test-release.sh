@@ -1,14 +1,13 @@
 #!/bin/sh
 # Tests a release: unpacks it in an empty folder, checks the sums, and runs the first use of its page, C and Rust over its archive, with no prover at hand.
 #   test-release.sh [FILE]   the release (default: one that is packed for the test, without a gate)
-# DOORQUILL_LIB, SAMPLES and OUT as for pack.sh.
+# DOORQUILL_LIB and OUT as for pack.sh.
 set -eu
 here=$(cd "$(dirname "$0")" && pwd)
 root=$(dirname "$here")
 out=${OUT:-$root/target/rust}
 mkdir -p "$out"
 . "$here/tools.sh"
-samples=${SAMPLES:-$root/../shared/samples}
 
 failed() {
     echo "release: FAILED: $*"
@@ -19,7 +18,6 @@ file=${1:-}
 if [ -z "$file" ]; then
     [ -n "${DOORQUILL_LIB:-}" ] || archives || exit 1
     [ -f "$DOORQUILL_LIB/libbench.a" ] || left_out "no archives in $DOORQUILL_LIB"
-    [ -f "$samples/reassembly_l12.ghw" ] || left_out "no samples in $samples"
     file=$(OUT=$out "$here/pack.sh" "$out/packed" "not run: packed for a test" "not asked")
 fi
 file=$(cd "$(dirname "$file")" && pwd)/$(basename "$file")

@@ -52,22 +52,18 @@ struct Counts {
 }
 
 impl Counts {
-    fn put(&mut self, name: &str, t: &Tables, big: bool, bytes: &[u8]) -> bool {
-        match put(t, big, bytes) {
-            Ok((taken, calls)) => {
-                *self.taken.entry(taken).or_default() += 1;
-                self.calls += calls;
-                true
-            }
-            Err(text) => {
-                let case = Case { big, ..Case::new(Entry::Sections, t, bytes.to_vec()) };
-                println!("DIFFERENCE in {}\n{}\n{}", name, text, case.text());
-                false
-            }
-        }
+    fn put(&mut self, name: &str, t: &Tables, big: bool, bytes: &[u8]) -> Result<(), String> {
+        let (taken, calls) = put(t, big, bytes).map_err(|text| {
+            let case = Case { big, ..Case::new(Entry::Sections, t, bytes.to_vec()) };
+            format!("DIFFERENCE in {}\n{}\n{}", name, text, case.text())
+        })?;
+        *self.taken.entry(taken).or_default() += 1;
+        self.calls += calls;
+        Ok(())
     }
 }
 
+/// Real files, whole and cut at every eleventh byte; how many there were.
 fn samples(counts: &mut Counts, dir: &str) -> Result<usize, String> {
     let entries = std::fs::read_dir(dir).map_err(|e| format!("{}: {}", dir, e))?;
     let mut found = 0;
@@ -75,38 +71,38 @@ fn samples(counts: &mut Counts, dir: &str) -> Result<usize, String> {
         let name = path.display().to_string();
         let input = std::fs::read(&path).map_err(|e| format!("{}: {}", name, e))?;
         let (t, big, from) = plain::preamble(&input).map_err(|r| format!("{}: preamble: {:?}", name, r))?;
-        // Whole, and cut at every eleventh byte.
         for end in (from..=input.len()).rev().step_by(11) {
-            if !counts.put(&name, &t, big, &input[from..end]) {
-                return Err(String::new());
-            }
+            counts.put(&name, &t, big, &input[from..end])?;
         }
         found += 1;
+    }
+    if found == 0 {
+        return Err(format!("{}: no real file", dir));
     }
     Ok(found)
 }
 
-pub fn dropin(seed: u64, inputs: u64, dir: Option<&str>) -> bool {
-    let mut counts = Counts::default();
-    if let Some(dir) = dir {
-        match samples(&mut counts, dir) {
-            Ok(0) => return false,
-            Ok(found) => println!("{} real files, whole and cut at every eleventh byte", found),
-            Err(text) => {
-                println!("{}", text);
-                return false;
-            }
-        }
-    }
+fn generated(counts: &mut Counts, seed: u64, inputs: u64) -> Result<(), String> {
     let mut rng = Rng::new(seed ^ 7 << 40);
     for i in 0..inputs {
         let blocks = rng.pick(&[1, 2, 3, 4, 6, 9]);
         let t = gen::tables(&mut rng, blocks);
         let case = runs::random(Entry::Sections, &mut rng, &t);
-        if !counts.put(&format!("input {}", i), &case.tables, case.big, &case.input) {
-            return false;
-        }
+        counts.put(&format!("input {}", i), &case.tables, case.big, &case.input)?;
     }
+    Ok(())
+}
+
+fn all(counts: &mut Counts, seed: u64, inputs: u64, dir: Option<&str>) -> Result<(), String> {
+    if let Some(dir) = dir {
+        println!("{} real files, whole and cut at every eleventh byte", samples(counts, dir)?);
+    }
+    generated(counts, seed, inputs)
+}
+
+pub fn dropin(seed: u64, inputs: u64, dir: Option<&str>) -> bool {
+    let mut counts = Counts::default();
+    let end = all(&mut counts, seed, inputs, dir);
     for (taken, count) in &counts.taken {
         match taken {
             Taken::Alike => println!("  accepted, the same {} calls  {:>9}", counts.calls, count),
@@ -114,6 +110,9 @@ pub fn dropin(seed: u64, inputs: u64, dir: Option<&str>) -> bool {
             Taken::GoesOn(number) => println!("  refused {}, where the crate's own file goes on  {:>9}", number, count),
         }
     }
-    println!("seed {}, {} generated inputs, the drop-in beside the crate's own file: no difference", seed, inputs);
-    counts.taken.contains_key(&Taken::Alike)
+    match &end {
+        Ok(()) => println!("seed {}, {} generated inputs, the drop-in beside the crate's own file: no difference", seed, inputs),
+        Err(text) => println!("{}", text),
+    }
+    end.is_ok()
 }

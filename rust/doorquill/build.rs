@@ -1,5 +1,5 @@
-//! Finds the proved archives and links them: those of a folder's `lib*.a` that have one of the calls.
-//! The folder is the one that DOORQUILL_LIB names, else `target/staticlib` at the repository's top or `lib` at a release's.
+//! Finds the proved archives and links them: those of a folder's `lib*.a` that have one of the calls. The folder is the
+//! one that DOORQUILL_LIB names, else `target/staticlib` at the repository's top or `lib` at a release's.
 use std::env;
 use std::fs;
 use std::path::{Path, PathBuf};

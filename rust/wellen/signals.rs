@@ -1,4 +1,5 @@
-//! In place of `src/ghw/signals.rs` of wellen 0.25.7: the sections are read by Doorquill's proved library. `README.md` beside this file says how it is taken in.
+//! In place of `src/ghw/signals.rs` of wellen 0.25.7: the sections are read by Doorquill's proved library. `README.md`
+//! beside this file says how it is taken in.
 use crate::ghw::common::*;
 use crate::signal::{SignalSource, States};
 use crate::wavemem::Encoder;

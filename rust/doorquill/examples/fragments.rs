@@ -2,13 +2,15 @@
 //!
 //!     cargo run --example fragments -- FILE.ghw SESSION STROBE CLOSE
 //!
-//! The three are paths of signals, such as `rbc.s_frag`. The command `doorquill fragments` does more: it says why a name cannot be counted by, where here the bench refuses.
+//! The three are paths of signals, such as `rbc.s_frag`. The command `doorquill fragments` does more: it says why a
+//! name cannot be counted by, where here the bench refuses.
 use doorquill::{ghw, read_sections, Counted};
 use std::error::Error;
 
 fn main() -> Result<(), Box<dyn Error>> {
     let arguments: Vec<String> = std::env::args().skip(1).collect();
-    let [file, session, strobe, close] = <[String; 4]>::try_from(arguments).map_err(|_| "FILE.ghw SESSION STROBE CLOSE")?;
+    let [file, session, strobe, close] =
+        <[String; 4]>::try_from(arguments).map_err(|_| "FILE.ghw SESSION STROBE CLOSE")?;
     let file = std::fs::read(file)?;
     let trace = ghw::open(&file)?;
     // A bit or a slice of another signal has no events of its own, and so no reference to count by.

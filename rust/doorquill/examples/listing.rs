@@ -2,8 +2,8 @@
 //!
 //!     cargo run --example listing < crates/listing_reassembly/stdin
 //!
-//! The input is the listing's (document 01): records 1 for signals and 2 for vectors, then 3, the byte order, and section bytes. Signal tables come from anywhere;
-//! `ghw::open` makes them from a `.ghw` file.
+//! The input is the listing's (document 01): records 1 for signals and 2 for vectors, then 3, the byte order, and
+//! section bytes. Signal tables come from anywhere; `ghw::open` makes them from a `.ghw` file.
 use doorquill::{read_sections, Event, Reading, Refusal, States, Tables};
 use std::io::{self, Read, Write};
 
@@ -36,7 +36,13 @@ pub fn preamble(mut input: &[u8]) -> Option<(Tables, bool, &[u8])> {
                 states.push(record[9]);
                 vec_refs.push(number(&record[10..14]));
             }
-            _ => return Some((Tables::from_lists(kinds, refs, vecs, mins, maxs, states, vec_refs), record[1] == 1, rest)),
+            _ => {
+                return Some((
+                    Tables::from_lists(kinds, refs, vecs, mins, maxs, states, vec_refs),
+                    record[1] == 1,
+                    rest,
+                ))
+            }
         }
         input = rest;
     }

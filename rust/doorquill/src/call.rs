@@ -1,7 +1,7 @@
 //! The proved calls over slices: the one file with `unsafe` in it.
 //!
-//! Each function hands slices on as pointers and lengths, and nothing else. That is sound because a call reads and writes inside them only, whatever they hold (demand 1, proved),
-//! and keeps no pointer.
+//! Each function hands slices on as pointers and lengths, and nothing else. That is sound because a call reads and
+//! writes inside them only, whatever they hold (demand 1, proved), and keeps no pointer.
 #![allow(unsafe_code)]
 use crate::raw::{self, Answer};
 use crate::Tables;

@@ -26,7 +26,8 @@ pub enum Event<'a> {
 
 /// The events of a reading, in order.
 ///
-/// Of a host's own records ([`Reading::from_records`](crate::Reading::from_records)) the iterator ends before the first that is no event; the calls say what is wrong with it.
+/// Of a host's own records ([`Reading::from_records`](crate::Reading::from_records)) the iterator ends before the first
+/// that is no event; the calls say what is wrong with it.
 #[derive(Clone, Debug)]
 pub struct Events<'a> {
     rest: &'a [u8],

@@ -1,10 +1,13 @@
 //! GHW waveforms, the traces of the VHDL simulator GHDL, read by a proved library.
 //!
-//! [`ghw::open`] reads what stands before the signal sections of a `.ghw` file: names, types, hierarchy, and from these the signal tables. Everything from there on is done
-//! by calls that are proved for every input (`crates/` in the repository): [`read_sections`] gathers values into events, [`Reading::time_rule`] keeps what has rising times, and
-//! [`Reading::fragments`] counts fragments to sessions. This crate lends them memory, enough of it, and puts their answers into types.
+//! [`ghw::open`] reads what stands before the signal sections of a `.ghw` file: names, types, hierarchy, and from these
+//! the signal tables. Everything from there on is done by calls that are proved for every input (`crates/` in the
+//! repository): [`read_sections`] gathers values into events, [`Reading::time_rule`] keeps what has rising times, and
+//! [`Reading::fragments`] counts fragments to sessions. This crate lends them memory, enough of it, and puts their
+//! answers into types.
 //!
-//! Whatever is wrong with an input comes back as a [`Refusal`]: a number, a place and a sentence. No input makes this crate panic.
+//! Whatever is wrong with an input comes back as a [`Refusal`]: a number, a place and a sentence. No input makes this
+//! crate panic.
 //!
 //! # The worked example of the rules
 //!
@@ -49,10 +52,21 @@
 //! # Ok::<(), doorquill::Refusal>(())
 //! ```
 //!
+//! # Memory
+//!
+//! The calls allocate nothing: this crate lends them all room, and enough of it. Of events, 13 bytes for each section
+//! byte always are enough, since every event but a time owns at least one write; a reading begins with half of that and
+//! one snapshot's worth, which is enough for what GHDL writes. Of values, the bytes of the widest signal for each write
+//! are; a reading begins with four bytes for each byte of the input, and where a wide bus makes more, the place of
+//! refusal 16 says by how much to go on. So refusal 16 is seen only where a file's values would take more than
+//! [`MOST_BUFFER`] bytes, and 6 only where the system has no memory left. `src/rooms.rs` has the sizes of all calls,
+//! with their reasons.
+//!
 //! # Linking
 //!
-//! `build.rs` takes the proved archives from the folder that `DOORQUILL_LIB` names, else from `target/staticlib` at the repository's top or from `lib` of a release. They are for
-//! x86-64 Linux. The calls keep no state: readings may be made in as many threads as one likes.
+//! `build.rs` takes the proved archives from the folder that `DOORQUILL_LIB` names, else from `target/staticlib` at the
+//! repository's top or from `lib` of a release. They are for x86-64 Linux. The calls keep no state: readings may be
+//! made in as many threads as one likes.
 #![deny(unsafe_code)]
 #![warn(missing_docs)]
 

@@ -1,8 +1,10 @@
-//! The proved calls as the archives have them: `libdoorquill.a` and, for [`doorquill_bench`], `libbench.a`; in a release all in one.
+//! The proved calls as the archives have them: `libdoorquill.a` and, for [`doorquill_bench`], `libbench.a`; in a
+//! release all in one.
 //!
-//! These are the only declarations of the calls in the repository; `compare/` takes this very file, so that every comparison holds them to
-//! the port. A slice is a pointer and a length; an empty one may have any pointer. No call allocates, keeps state or blocks, and a call reads and
-//! writes inside the slices that it is lent and nowhere else, whatever they hold.
+//! These are the only declarations of the calls in the repository; `compare/` takes this very file, so that every
+//! comparison holds them to the port. A slice is a pointer and a length; an empty one may have any pointer. No call
+//! allocates, keeps state or blocks, and a call reads and writes inside the slices that it is lent and nowhere else,
+//! whatever they hold.
 
 /// What every call answers: six numbers.
 #[repr(C)]
@@ -22,7 +24,8 @@ pub struct Answer {
     pub steps: u64,
 }
 
-/// A vector's record, as [`doorquill_read_sections_lent`] takes it: on a stride of sixteen bytes, the three after `state` of any content.
+/// A vector's record, as [`doorquill_read_sections_lent`] takes it: on a stride of sixteen bytes, the three after
+/// `state` of any content.
 #[repr(C)]
 #[derive(Clone, Copy, Debug)]
 pub struct Vector {

@@ -1,5 +1,6 @@
-//! Refusals in words: one table, from which come the text of a [`Refusal`], the names in `include/doorquill.h`, the page `docs/REFUSALS.md` and what
-//! `doorquill explain` prints. Tests hold the header and the page to it, and put every smallest input to the call that it names.
+//! Refusals in words: one table, from which come the text of a [`Refusal`], the names in `include/doorquill.h`, the
+//! page `docs/REFUSALS.md` and what `doorquill explain` prints. Tests hold the header and the page to it, and put every
+//! smallest input to the call that it names.
 use std::fmt;
 
 /// Why a call gave no reading: document 01's number and the place that it names.

@@ -1,24 +1,33 @@
 //! How much memory each call is lent, and why that is enough.
 //!
-//! A caller never sees refusal 6 or 16 for want of room, as long as what the input makes is within document 01's limit of 1,073,741,823 bytes for a buffer:
+//! A caller never sees refusal 6 or 16 for want of room, as long as what the input makes is within document 01's limit
+//! of 1,073,741,823 bytes for a buffer:
 //!
-//! * **Working room** is just what check 6 asks for. Tables that pass checks 1 to 5 have vectors whose ranges lie apart, so it is never more than some 66 KiB; tables that
-//!   would ask for more are refused before check 6.
-//! * **Events.** Every event but a time owns at least one write, so there are at most as many as writes. A value event takes 13 bytes and a write at least one byte of a snapshot or two
-//!   of a cycle; a time takes 9 bytes and at least two of a cycle. So 13 bytes for each section byte are always enough. A reading begins with half of that and room for one whole
-//!   snapshot more, which is enough for every file that GHDL writes; where it is not, the second attempt has all 13. A byte write of change records takes 6 bytes and all other records take
-//!   as many as their events: 13 bytes for every 6.
-//! * **Values.** Each value event takes at most the bytes of the widest signal: so many for each write are always enough. With a wide bus that would be far too much (a 4096-bit nine-state
-//!   bus: 2,048 bytes for a section byte), so a reading begins with four bytes for each byte of the input and some more. Where that is full, refusal 16 says how far the reading came: the next attempt has in
-//!   proportion to that, at least twice and at most eight times as much, up to what is always enough or to the limit.
-//! * **Sections written.** A step takes 10 bytes of change records and at most 11 of sections; a write never takes more than its record; 29 bytes open and close the section.
-//! * **Sections read back.** A write's record has 6 bytes, or 13 for a number or a real; a number may take one byte of a section. So 13 bytes for each section byte, 6 where no signal is a number.
+//! * **Working room** is just what check 6 asks for. Tables that pass checks 1 to 5 have vectors whose ranges lie
+//!   apart, so it is never more than some 66 KiB; tables that would ask for more are refused before check 6.
+//! * **Events.** Every event but a time owns at least one write, so there are at most as many as writes. A value event
+//!   takes 13 bytes and a write at least one byte of a snapshot or two of a cycle; a time takes 9 bytes and at least
+//!   two of a cycle. So 13 bytes for each section byte are always enough. A reading begins with half of that and room
+//!   for one whole snapshot more, which is enough for every file that GHDL writes; where it is not, the second attempt
+//!   has all 13. A byte write of change records takes 6 bytes and all other records take as many as their events: 13
+//!   bytes for every 6.
+//! * **Values.** Each value event takes at most the bytes of the widest signal: so many for each write are always
+//!   enough. With a wide bus that would be far too much (a 4096-bit nine-state bus: 2,048 bytes for a section byte), so
+//!   a reading begins with four bytes for each byte of the input and some more. Where that is full, refusal 16 says how
+//!   far the reading came: the next attempt has in proportion to that, at least twice and at most eight times as much,
+//!   up to what is always enough or to the limit.
+//! * **Sections written.** A step takes 10 bytes of change records and at most 11 of sections; a write never takes more
+//!   than its record; 29 bytes open and close the section.
+//! * **Sections read back.** A write's record has 6 bytes, or 13 for a number or a real; a number may take one byte of
+//!   a section. So 13 bytes for each section byte, 6 where no signal is a number.
 //! * **The time rule** keeps at most what it reads.
-//! * **The bench.** A rise of the strobe makes at most 34 bytes, a fragment and a closing. Every rise but the first takes two steps and two events of the strobe, 44 bytes; the first takes one of each, 22. At the end
-//!   at most 32 sessions are held, of 13 bytes each. So 428 bytes more than the events have are always enough.
+//! * **The bench.** A rise of the strobe makes at most 34 bytes, a fragment and a closing. Every rise but the first
+//!   takes two steps and two events of the strobe, 44 bytes; the first takes one of each, 22. At the end at most 32
+//!   sessions are held, of 13 bytes each. So 428 bytes more than the events have are always enough.
 use crate::{Refusal, States, Tables, MOST_BUFFER, MOST_SECTION_BYTES, MOST_VECTORS};
 
-/// More than the working room of any tables that pass checks 1 to 5: `(5 * 65,535 + 11 * 16,383) / 8` bytes of values and marks, and two runs of 16,383 flags.
+/// More than the working room of any tables that pass checks 1 to 5: `(5 * 65,535 + 11 * 16,383) / 8` bytes of values
+/// and marks, and two runs of 16,383 flags.
 const MOST_WORKING_ROOM: usize = 131_072;
 
 /// What a reading's outputs are lent: at first, and at most.

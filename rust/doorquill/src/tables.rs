@@ -62,8 +62,8 @@ pub struct Vector {
 
 /// The signal and vector tables.
 ///
-/// Ids and vector numbers are given out from 1, in the order in which signals and vectors are added. Nothing is judged here: the proved calls make
-/// document 01's checks 1 to 5 of whatever tables they are lent, and refuse.
+/// Ids and vector numbers are given out from 1, in the order in which signals and vectors are added. Nothing is judged
+/// here: the proved calls make document 01's checks 1 to 5 of whatever tables they are lent, and refuse.
 #[derive(Clone, Default, Debug, PartialEq, Eq)]
 pub struct Tables {
     pub(crate) kinds: Vec<u8>,
@@ -89,7 +89,8 @@ impl Tables {
         Tables::default()
     }
 
-    /// Adds a signal outside vectors and gives its id. A kind that belongs to vectors is refused by the call that is lent the tables (4, at the id).
+    /// Adds a signal outside vectors and gives its id. A kind that belongs to vectors is refused by the call that is
+    /// lent the tables (4, at the id).
     pub fn signal(&mut self, kind: Kind, reference: u32) -> u32 {
         self.push(kind, reference, 0);
         count(&self.kinds)
@@ -97,8 +98,8 @@ impl Tables {
 
     /// Adds a vector and the `width` signals that it gathers.
     ///
-    /// A width of 0 is refused by the call (3, at the vector's number), and so is one of more than 65,535 (2): of such a vector no more than 65,536
-    /// signals are stored.
+    /// A width of 0 is refused by the call (3, at the vector's number), and so is one of more than 65,535 (2): of such
+    /// a vector no more than 65,536 signals are stored.
     pub fn vector(&mut self, states: States, width: u32, reference: u32) -> Vector {
         let (kind, state) = match states {
             States::Nine => (Kind::NineStateVec, 0),
@@ -117,8 +118,8 @@ impl Tables {
         Vector { number, min, max }
     }
 
-    /// Tables of any lists, good or bad: kind, reference and vector number (0 for none) of each id; least id, greatest id, state (0 nine, 1 two)
-    /// and reference of each vector.
+    /// Tables of any lists, good or bad: kind, reference and vector number (0 for none) of each id; least id, greatest
+    /// id, state (0 nine, 1 two) and reference of each vector.
     pub fn from_lists(
         kinds: Vec<u8>,
         refs: Vec<u32>,

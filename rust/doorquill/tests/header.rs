@@ -4,10 +4,11 @@ use std::process::Command;
 
 const TOP: &str = concat!(env!("CARGO_MANIFEST_DIR"), "/../..");
 
-const WORKED_EXAMPLE: &str = "time 0\nnine 1 01\ntwo 2 02\ntwo 3 2a\ntime 10\ntwo 2 03\ntime 15\nnine 1 03\ndone 60 3\n";
+const WORKED_EXAMPLE: &str =
+    "time 0\nnine 1 01\ntwo 2 02\ntwo 3 2a\ntime 10\ntwo 2 03\ntime 15\nnine 1 03\ndone 60 3\n";
 
-/// The compilers for x86-64, and what runs a program for it. These tests are themselves x86-64 programs, which on an Arm machine run under an emulator: what the
-/// machine is, `uname` says.
+/// The compilers for x86-64, and what runs a program for it. These tests are themselves x86-64 programs, which on an
+/// Arm machine run under an emulator: what the machine is, `uname` says.
 fn tools() -> ([&'static str; 2], Option<&'static str>) {
     let machine = Command::new("uname").arg("-m").output().expect("uname").stdout;
     if machine == b"x86_64\n" {

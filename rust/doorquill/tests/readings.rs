@@ -112,9 +112,8 @@ fn tables_are_judged_by_the_calls_and_cost_no_memory() {
     stray.signal(Kind::U8, 1);
     stray.signal(Kind::TwoStateVec, 1);
     assert_eq!(read(&stray), (4, 2));
-    let vast = |n: usize| {
-        Tables::from_lists(vec![], vec![], vec![], vec![1; n], vec![u32::MAX; n], vec![0; n], vec![1; n])
-    };
+    let vast =
+        |n: usize| Tables::from_lists(vec![], vec![], vec![], vec![1; n], vec![u32::MAX; n], vec![0; n], vec![1; n]);
     assert_eq!(read(&vast(3)), (3, 1));
     assert_eq!(read(&vast(100_000)), (2, 0));
     assert_eq!(read(&Tables::from_lists(vec![7], vec![1], vec![0], vec![], vec![], vec![], vec![])), (4, 1));

@@ -1,5 +1,5 @@
-//! The header and the page are held to the table of refusals.
-//! `DOORQUILL_WRITE=1 cargo test --test refusals` writes the page again; of the header it prints what should stand there.
+//! The header and the page are held to the table of refusals. `DOORQUILL_WRITE=1 cargo test --test refusals` writes the
+//! page again; of the header it prints what should stand there.
 use doorquill::refusal::{Counts, MEANINGS};
 use doorquill::Refusal;
 use std::fmt::Write;

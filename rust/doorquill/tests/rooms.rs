@@ -106,6 +106,9 @@ fn the_bench_at_its_longest() {
     let reading = read_changes(&tables, &changes).unwrap().time_rule().unwrap();
     let counted = reading.fragments(1, 2, 3).unwrap();
     assert_eq!(counted.len(), 2 * 501 + 32 + 32);
-    assert_eq!(counted[..2], [Counted::Fragment { time: 0, session: 0 }, Counted::Closed { time: 0, session: 0, count: 1 }]);
+    assert_eq!(
+        counted[..2],
+        [Counted::Fragment { time: 0, session: 0 }, Counted::Closed { time: 0, session: 0, count: 1 }]
+    );
     assert_eq!(counted[counted.len() - 1], Counted::Held { session: 31, count: 1 });
 }
