@@ -199,6 +199,20 @@ fn scopes_by_name() {
     assert!(trace.find("rbc").is_none() && trace.find("s").is_none() && trace.find("").is_none());
 }
 
+/// A scope or a signal may be without a name: its dot stays, so that every path leads back to its signal.
+#[test]
+fn anonymous_scopes() {
+    let mut file = File::new();
+    file.fresh("s", 2, 1);
+    file.instance("");
+    file.fresh("s", 2, 1);
+    file.instance("");
+    file.fresh("", 2, 1);
+    file.end();
+    file.end();
+    assert_eq!(listed(&file), ["s std_ulogic 1 1", ".s std_ulogic 1 2", ".. std_ulogic 1 3"]);
+}
+
 #[test]
 fn big_endian_files() {
     let mut file = File::new();

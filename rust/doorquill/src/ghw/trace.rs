@@ -277,12 +277,9 @@ impl<'t> Signal<'t> {
 
     /// Its name with those of the scopes that it is in: `rbc.lane(3).s_frag`.
     pub fn path(&self) -> String {
-        let scope = self.trace.scope_path(self.declaration().scope);
-        let name = self.name();
-        if scope.is_empty() {
-            name
-        } else {
-            scope + "." + &name
+        match self.declaration().scope {
+            0 => self.name(),
+            scope => self.trace.scope_path(scope) + "." + &self.name(),
         }
     }
 
