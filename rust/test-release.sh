@@ -54,7 +54,7 @@ under "$empty/worked_example" | cmp - "$root/crates/listing/stdout" || failed "t
 
 # The crate as it lies there.
 cd rust
-CARGO_TARGET_DIR=$out/released
+CARGO_TARGET_DIR=$empty/target
 export CARGO_TARGET_DIR
 cargo run -q --locked -p doorquill --example listing < "$root/crates/listing_reassembly/stdin" | cmp - "$root/crates/listing_reassembly/stdout" ||
     failed "the crate's example"

@@ -52,7 +52,7 @@ fn folder() -> PathBuf {
     if let Some(folder) = env::var_os("DOORQUILL_LIB") {
         return folder.into();
     }
-    let top = Path::new(env!("CARGO_MANIFEST_DIR")).join("../..");
+    let top = PathBuf::from(env::var_os("CARGO_MANIFEST_DIR").unwrap_or_default()).join("../..");
     let (made, released) = (top.join("target/staticlib"), top.join("lib"));
     if released.is_dir() && !made.is_dir() {
         released
