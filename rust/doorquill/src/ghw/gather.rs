@@ -46,7 +46,8 @@ pub(super) struct Gatherer {
     pub tables: Tables,
     /// Of each id, from 1 on: the leaf that it belongs to, and what a signal outside vectors with it would be.
     owners: Vec<(u32, Kind)>,
-    /// The references of parts, by first id and width.
+    /// The references of parts, by first id and width. No event has one; they are counted because the published crate is thought to count them, so that
+    /// later signals have the same reference here and there. That was inferred, not compared: its hierarchy reader was not at hand.
     parts: HashMap<(u32, u32), u32>,
     references: u32,
 }

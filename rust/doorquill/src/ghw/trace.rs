@@ -308,9 +308,10 @@ impl<'t> Signal<'t> {
         self.leaf().width
     }
 
-    /// The reference that its events have, or would have; none of a signal that is scattered or empty.
+    /// The reference that its events have; none of a signal that has no events of its own, so that nobody counts by one and finds nothing.
     pub fn reference(&self) -> Option<u32> {
-        Some(self.leaf().reference).filter(|&reference| reference != 0)
+        let leaf = self.leaf();
+        matches!(leaf.role, Role::Own | Role::Alias { .. }).then(|| leaf.reference)
     }
 
     /// The kind that its ids have in the tables; none of a signal that is scattered or empty.
