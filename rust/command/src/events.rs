@@ -29,7 +29,8 @@ pub fn run(options: &Options, work: &mut Work, out: &mut dyn Write, err: &mut dy
             continue;
         }
         let reference = reference(&event);
-        if let (true, Some(signal)) = (within(time, options), shown.get(reference)) {
+        let signals = if within(time, options) { shown.get(reference) } else { &[] };
+        for signal in signals {
             count += 1;
             let value = signal.text(&event);
             if options.json {
@@ -46,16 +47,16 @@ pub fn run(options: &Options, work: &mut Work, out: &mut dyn Write, err: &mut dy
     Ok(())
 }
 
-/// What can be shown, by reference.
-struct ByReference(Vec<Option<Shown>>);
+/// What is to be shown, by reference: a signal may have been asked for under several names.
+struct ByReference(Vec<Vec<Shown>>);
 
 impl ByReference {
-    fn get(&self, reference: u32) -> Option<&Shown> {
-        self.0.get(reference as usize)?.as_ref()
+    fn get(&self, reference: u32) -> &[Shown] {
+        self.0.get(reference as usize).map_or(&[], |signals| signals.as_slice())
     }
 }
 
-/// The signals that were asked for, under the names that were typed; without any, all that have events of their own.
+/// The signals that were asked for; without any, all that have events of their own.
 fn shown(file: &File, trace: &Trace, options: &Options) -> Result<ByReference, Stop> {
     let mut signals = vec![];
     if options.signals.is_empty() {
@@ -65,10 +66,10 @@ fn shown(file: &File, trace: &Trace, options: &Options) -> Result<ByReference, S
         signals.push(with_events(&file.name, trace, path)?);
     }
     let most = signals.iter().filter_map(|signal| signal.reference()).max().unwrap_or(0);
-    let mut by_reference: Vec<Option<Shown>> = (0..=most).map(|_| None).collect();
+    let mut by_reference: Vec<Vec<Shown>> = (0..=most).map(|_| vec![]).collect();
     for signal in signals {
         if let Some(reference) = signal.reference() {
-            by_reference[reference as usize].get_or_insert_with(|| Shown::new(signal));
+            by_reference[reference as usize].push(Shown::new(signal));
         }
     }
     Ok(ByReference(by_reference))
@@ -97,7 +98,7 @@ fn raw(reading: &Reading, shown: &ByReference, options: &Options, out: &mut dyn 
     for event in reading.events() {
         if let Event::Time(now) = event {
             time = now;
-        } else if shown.get(reference(&event)).is_none() {
+        } else if shown.get(reference(&event)).is_empty() {
             continue;
         }
         if !within(time, options) {

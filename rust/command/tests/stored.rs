@@ -58,6 +58,7 @@ fn events() {
             "events REASSEMBLY --signal reassembly.l12.s_frag --from 20ns --to 50ns",
             "events REASSEMBLY --signal reassembly.l12.state --signal reassembly.l12.s_bv --to 30000ps",
             "events NAMES --signal names.lanes(1).whole.u.data --json",
+            "events NAMES --signal names.yes --signal names.one --signal names.lanes(0).part.u.bit0",
             "events REASSEMBLY --signal reassembly.l12.s_frag --from 1ms",
             "events REASSEMBLY --raw --signal reassembly.l12.s_slv --from 1200ns",
         ],

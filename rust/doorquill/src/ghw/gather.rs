@@ -63,6 +63,11 @@ impl Gatherer {
         self.owners.get((id as usize).checked_sub(1)?).map(|&(leaf, _)| leaf)
     }
 
+    /// What a signal outside vectors with this id would be.
+    pub fn lone_kind(&self, id: u32) -> Option<Kind> {
+        self.owners.get((id as usize).checked_sub(1)?).map(|&(_, kind)| kind)
+    }
+
     /// Reads the ids of one leaf: new ones, which must come in order, and known ones, which must be of the leaf's kind.
     pub fn leaf(
         &mut self,
@@ -79,7 +84,7 @@ impl Gatherer {
         for _ in 0..types.at(of).scalars {
             let place = cursor.at();
             let id = cursor.unsigned()?;
-            if id == 0 || id > highest + 1 || id > u64::from(u32::MAX) {
+            if id == 0 || id > highest + 1 {
                 return form(place, format!("id {id} where the highest so far is {highest}"));
             }
             if id <= before && self.owners[id as usize - 1].1 != kind {

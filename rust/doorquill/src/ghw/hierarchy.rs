@@ -122,7 +122,7 @@ impl Hierarchy {
                         return form(place, format!("scopes nested more than {DEEPEST} deep"));
                     }
                     hierarchy.scopes.push(ScopeRecord { parent: scope, name, kind, index, depth, ids: 0 });
-                    scope = number(hierarchy.scopes.len() - 1, place)?;
+                    scope = hierarchy.scopes.len() as u32 - 1;
                 }
                 16..=21 => {
                     use Direction::*;
@@ -155,25 +155,16 @@ impl Hierarchy {
                 format!("a signal of {} scalars in the {} bytes that are left", what.scalars, cursor.left()),
             );
         }
-        let declaration = number(self.declarations.len(), place)?;
-        let leaves = number(self.gatherer.leaves.len(), place)?;
+        let declaration = self.declarations.len() as u32;
+        let leaves = self.gatherer.leaves.len() as u32;
         self.declarations.push(Declaration { scope, name, of, direction, leaves });
         let before = self.gatherer.ids();
         if what.scalars == 0 {
             self.gatherer.leaves.push(Leaf::empty(declaration));
             return Ok(());
         }
-        number(what.scalars as usize, place)?;
         types.leaves(of, 0, &mut |leaf, at| self.gatherer.leaf(cursor, types, leaf, declaration, at as u32))?;
         self.scopes[scope as usize].ids += (self.gatherer.ids() - before) as u64;
         Ok(())
-    }
-}
-
-/// A count of things that have a number of 32 bits.
-fn number(count: usize, place: usize) -> Result<u32, HeaderError> {
-    match u32::try_from(count) {
-        Ok(number) => Ok(number),
-        Err(_) => form(place, "more than 4,294,967,295 of them"),
     }
 }

@@ -28,14 +28,30 @@ use hierarchy::Hierarchy;
 use strings::Strings;
 use types::Types;
 
+/// The most bytes before the sections, so that whatever is counted there fits 32 bits.
+const MOST: usize = 1 << 30;
+
 /// Reads all of a file that stands before its sections.
 ///
 /// Memory stays within a small multiple of the file's size. Refused are, besides what does not have the form of a GHW file, strings of more than 65,535 bytes,
-/// types nested more than 32 deep and scopes nested more than 1,024 deep.
+/// types nested more than 32 deep, scopes nested more than 1,024 deep, and more than 1,073,741,824 bytes before the sections.
 pub fn open(file: &[u8]) -> Result<Trace<'_>, HeaderError> {
-    let mut cursor = Cursor::new(file, "the header");
-    let minor = header(file, &mut cursor)?;
-    let strings = Strings::read(file, &mut cursor)?;
+    let before = &file[..file.len().min(MOST)];
+    read(file, before).map_err(|error| match error.fault {
+        HeaderFault::Ended if before.len() < file.len() => HeaderError {
+            fault: HeaderFault::Form,
+            sentence: format!("more than {MOST} bytes before the sections"),
+            ..error
+        },
+        _ => error,
+    })
+}
+
+/// Reads the parts, which must end within the bytes `before`.
+fn read<'a>(file: &'a [u8], before: &'a [u8]) -> Result<Trace<'a>, HeaderError> {
+    let mut cursor = Cursor::new(before, "the header");
+    let minor = header(before, &mut cursor)?;
+    let strings = Strings::read(before, &mut cursor)?;
     let types = Types::read(&mut cursor, &strings, minor)?;
     well_known(&mut cursor, &types)?;
     let hierarchy = Hierarchy::read(&mut cursor, &strings, &types)?;

@@ -316,8 +316,13 @@ impl<'t> Signal<'t> {
 
     /// The kind that its ids have in the tables; none of a signal that is scattered or empty.
     pub fn kind(&self) -> Option<Kind> {
-        let leaf = self.leaf();
-        self.trace.tables().kind(leaf.first)
+        let first = self.leaf().first;
+        let owner = self.trace.signal_of(first)?;
+        match self.trace.hierarchy.gatherer.lone_kind(first)? {
+            Kind::NineState if owner.is_vector() => Some(Kind::NineStateVec),
+            Kind::TwoState if owner.is_vector() => Some(Kind::TwoStateVec),
+            kind => Some(kind),
+        }
     }
 
     /// Its ids, from the leftmost bit to the rightmost.
