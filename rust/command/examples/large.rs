@@ -1,4 +1,5 @@
-//! Writes a file as large as can be read, for measuring: the steps of the reassembly sample, again and again, with all sessions closed in between.
+//! Writes a file as large as can be read, for measuring: the steps of the reassembly sample, again and again, with all
+//! sessions closed in between.
 //!
 //!     cargo run --release --example large -- FILE
 use doorquill::{ghw, read_sections, Counted, MOST_SECTION_BYTES};
@@ -18,7 +19,8 @@ fn main() {
     let counted =
         reading.time_rule().and_then(|kept| kept.fragments(session, strobe, close)).expect("the sample is good");
 
-    // the lines have neighbouring ids: a step that shows a session writes them all, and closes it; a last one ends the closing
+    // the lines have neighbouring ids: a step that shows a session writes them all, and closes it; a last one ends the
+    // closing
     let first = lines[0].ids()[0] as u8;
     let mut between = NANOSECOND.to_vec();
     for record in &counted {

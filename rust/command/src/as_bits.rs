@@ -1,4 +1,5 @@
-//! `--as-bits`: nine-state events of chosen lines as two-state ones. This step is the host's own: it stands outside the proof, and the output says so.
+//! `--as-bits`: nine-state events of chosen lines as two-state ones. This step is the host's own: it stands outside the
+//! proof, and the output says so.
 use crate::times;
 use crate::values::{letters, Shown};
 use doorquill::{Event, Reading, States};
@@ -9,7 +10,8 @@ pub struct Line<'a> {
     pub shown: &'a Shown,
 }
 
-/// The reading with the lines' nine-state events as two-state ones: `1` and `H` as 1, `0` and `L` as 0; any other letter is refused with signal, letter and time.
+/// The reading with the lines' nine-state events as two-state ones: `1` and `H` as 1, `0` and `L` as 0; any other
+/// letter is refused with signal, letter and time.
 pub fn as_bits(reading: &Reading, lines: &[Line]) -> Result<Reading, String> {
     let (mut events, mut values) = (vec![], vec![]);
     let mut time = 0;

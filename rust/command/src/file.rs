@@ -50,7 +50,8 @@ impl File {
         })
     }
 
-    /// Reads the sections by the proved call; where the options say so, those of a cut file up to its last whole step. Whether that was done comes with it.
+    /// Reads the sections by the proved call; where the options say so, those of a cut file up to its last whole step.
+    /// Whether that was done comes with it.
     pub fn read(
         &self,
         trace: &Trace,
@@ -74,7 +75,8 @@ impl File {
         if refusal.number != 7 || !options.salvage {
             let mut text = refused::sections(self, trace, refusal);
             if options.salvage {
-                text += "\n  --salvage does not help: it is for files that end too early, and this one is damaged before its end";
+                text +=
+                    "\n  --salvage does not help: it is for files that end too early, and this one is damaged before";
             }
             return Err(Stop::Refused(text));
         }
@@ -114,24 +116,19 @@ impl File {
             (2, trace.ids() as u64, "signals, each bit of a vector counted", MOST_SIGNALS),
             (2, trace.tables().vectors() as u64, "vectors", MOST_VECTORS),
         ];
-        let over: Vec<String> = figures
-            .iter()
-            .filter(|(_, has, _, most)| *has > *most as u64)
-            .map(|(_, has, what, most)| {
-                format!("\n  it has {} {what}; {} can be read", thousands(*has), thousands(*most as u64))
-            })
-            .collect();
-        let number = match figures.iter().find(|(_, has, _, most)| *has > *most as u64) {
+        let over: Vec<_> = figures.iter().filter(|(_, has, _, most)| *has > *most as u64).collect();
+        let number = match over.first() {
             Some((number, ..)) => *number,
             None => return Ok(()),
         };
-        Err(Stop::Refused(format!(
-            "{}{}{}\n  a wave option file makes it smaller (run the simulation with --write-wave-opt=FILE, take out signals, then --read-wave-opt=FILE), \
-             and so does a shorter run (--stop-time=T)",
-            refused::head(&self.name, number),
-            over.concat(),
-            crowded(trace),
-        )))
+        let mut text = refused::head(&self.name, number);
+        for (_, has, what, most) in over {
+            text += &format!("\n  it has {} {what}; {} can be read", thousands(*has), thousands(*most as u64));
+        }
+        text += &crowded(trace);
+        text += "\n  a wave option file makes it smaller (run the simulation with --write-wave-opt=FILE, take out signals, \
+                 then --read-wave-opt=FILE), and so does a shorter run (--stop-time=T)";
+        Err(Stop::Refused(text))
     }
 }
 

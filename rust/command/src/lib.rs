@@ -1,7 +1,8 @@
-//! The command `doorquill`, from a `.ghw` file to an answer; as a library, so that tests and the fuzzer run it in their own process.
+//! The command `doorquill`, from a `.ghw` file to an answer; as a library, so that tests and the fuzzer run it in their
+//! own process.
 //!
-//! What stands before the sections is read by [`doorquill::ghw`]; sections, time rule and bench are the proved calls of [`doorquill`]. This crate asks them and
-//! shows what they say.
+//! What stands before the sections is read by [`doorquill::ghw`]; sections, time rule and bench are the proved calls of
+//! [`doorquill`]. This crate asks them and shows what they say.
 #![forbid(unsafe_code)]
 #![warn(missing_docs)]
 
@@ -28,7 +29,8 @@ use std::io::Write;
 use stop::Stop;
 use work::Work;
 
-/// Runs the command: results to `out`, everything else to `err`. The exit status: 0 done, 1 refused, 2 usage or a file that cannot be read.
+/// Runs the command: results to `out`, everything else to `err`. The exit status: 0 done, 1 refused, 2 usage or a file
+/// that cannot be read.
 ///
 /// `progress` says that a person watches standard error: work of more than a second then shows there that it goes on.
 pub fn run(args: Vec<OsString>, out: &mut dyn Write, err: &mut dyn Write, progress: bool) -> i32 {

@@ -1,5 +1,5 @@
-//! A walk through section bytes up to a place: in which step and whose value it is, and where the last whole step ended. It judges nothing and reads no value:
-//! the proved call has done that, and refused.
+//! A walk through section bytes up to a place: in which step and whose value it is, and where the last whole step
+//! ended. It judges nothing and reads no value: the proved call has done that, and refused.
 use doorquill::{Kind, Tables};
 
 /// How the section that a step ended in must be closed.

@@ -5,7 +5,8 @@ mod common;
 use common::run;
 use std::fs;
 
-/// Runs, a line of arguments each, held to one stored file: results as they are, standard error behind `!`, the status behind `=`.
+/// Runs, a line of arguments each, held to one stored file: results as they are, standard error behind `!`, the status
+/// behind `=`.
 fn held(name: &str, lines: &[&str]) {
     let mut text = String::new();
     for line in lines {

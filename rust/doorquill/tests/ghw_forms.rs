@@ -319,7 +319,8 @@ fn faults_of_the_hierarchy() {
     );
 }
 
-/// Files that nest or multiply without end are refused, or cost no more than their size justifies: each of these comes back within moments.
+/// Files that nest or multiply without end are refused, or cost no more than their size justifies: each of these comes
+/// back within moments.
 #[test]
 fn nests_and_products() {
     let mut nested = File::new();

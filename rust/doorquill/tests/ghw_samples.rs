@@ -1,4 +1,5 @@
-//! Real files: the tables are those that the listing program is given for them, byte for byte, and damage to any part has a place.
+//! Real files: the tables are those that the listing program is given for them, byte for byte, and damage to any part
+//! has a place.
 use doorquill::ghw::{open, HeaderFault, Trace};
 use std::fs;
 use std::path::PathBuf;

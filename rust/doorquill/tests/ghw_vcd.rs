@@ -1,4 +1,5 @@
-//! Names and values held to GHDL's own VCD of the same run: the stored recording of `samples/names.vhd`, and, where `ghdl` is at hand, a new one.
+//! Names and values held to GHDL's own VCD of the same run: the stored recording of `samples/names.vhd`, and, where
+//! `ghdl` is at hand, a new one.
 use doorquill::ghw::{open, Relation, Signal, Trace, Values};
 use doorquill::{read_sections, Event, States};
 use std::collections::BTreeMap;
@@ -21,7 +22,8 @@ fn settled(changes: impl IntoIterator<Item = (u64, String)>) -> History {
     history
 }
 
-/// What a VCD file declares: a path, with the code and the width of a variable, or none where GHDL leaves the signal out.
+/// What a VCD file declares: a path, with the code and the width of a variable, or none where GHDL leaves the signal
+/// out.
 struct Declared {
     path: String,
     variable: Option<(String, usize)>,

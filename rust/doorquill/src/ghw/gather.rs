@@ -46,8 +46,9 @@ pub(super) struct Gatherer {
     pub tables: Tables,
     /// Of each id, from 1 on: the leaf that it belongs to, and what a signal outside vectors with it would be.
     owners: Vec<(u32, Kind)>,
-    /// The references of parts, by first id and width. No event has one; they are counted because the published crate is thought to count them, so that
-    /// later signals have the same reference here and there. That was inferred, not compared: its hierarchy reader was not at hand.
+    /// The references of parts, by first id and width. No event has one; they are counted because the published crate
+    /// is thought to count them, so that later signals have the same reference here and there. That was inferred, not
+    /// compared: its hierarchy reader was not at hand.
     parts: HashMap<(u32, u32), u32>,
     references: u32,
 }
@@ -106,7 +107,8 @@ impl Gatherer {
         Ok(())
     }
 
-    /// Adds a leaf whose ids rise by one and are all new or all known; false, and nothing added, where known ids belong to more than one leaf.
+    /// Adds a leaf whose ids rise by one and are all new or all known; false, and nothing added, where known ids belong
+    /// to more than one leaf.
     fn add(&mut self, declaration: u32, at: u32, first: u32, width: u32, kind: Kind, vector: bool) -> bool {
         let (role, reference) = match self.owner(first) {
             None => {

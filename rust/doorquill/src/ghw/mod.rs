@@ -1,7 +1,7 @@
 //! Whole `.ghw` files: what stands before the sections is read here, in plain Rust; it is not proved.
 //!
-//! [`open`] reads header, strings, types and hierarchy, and gives a [`Trace`]: the signals by their names, the tables that the proved calls want, and
-//! where the sections begin. Any bytes at all may be put to it.
+//! [`open`] reads header, strings, types and hierarchy, and gives a [`Trace`]: the signals by their names, the tables
+//! that the proved calls want, and where the sections begin. Any bytes at all may be put to it.
 //!
 //! ```no_run
 //! let file = std::fs::read("rbc.ghw")?;
@@ -33,8 +33,9 @@ const MOST: usize = 1 << 30;
 
 /// Reads all of a file that stands before its sections.
 ///
-/// Memory stays within a small multiple of the file's size. Refused are, besides what does not have the form of a GHW file, strings of more than 65,535 bytes,
-/// types nested more than 32 deep, scopes nested more than 1,024 deep, and more than 1,073,741,824 bytes before the sections.
+/// Memory stays within a small multiple of the file's size. Refused are, besides what does not have the form of a GHW
+/// file, strings of more than 65,535 bytes, types nested more than 32 deep, scopes nested more than 1,024 deep, and
+/// more than 1,073,741,824 bytes before the sections.
 pub fn open(file: &[u8]) -> Result<Trace<'_>, HeaderError> {
     let before = &file[..file.len().min(MOST)];
     read(file, before).map_err(|error| match error.fault {

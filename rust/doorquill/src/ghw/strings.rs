@@ -1,4 +1,5 @@
-//! The strings, front-compressed: kept as they are in the file, each a chain of pieces, so that sharing a long beginning a million times costs a million numbers.
+//! The strings, front-compressed: kept as they are in the file, each a chain of pieces, so that sharing a long
+//! beginning a million times costs a million numbers.
 use super::bytes::{form, Cursor, HeaderError};
 
 /// The longest string that is taken: no identifier comes near it, and every name that is written out stays small.
@@ -108,7 +109,8 @@ impl<'a> Strings<'a> {
     }
 }
 
-/// A shared length: the low five bits of the byte that ended a string and, while bytes are 128 or more, of those that follow, low bits first.
+/// A shared length: the low five bits of the byte that ended a string and, while bytes are 128 or more, of those that
+/// follow, low bits first.
 fn shared_length(cursor: &mut Cursor, first: u8, place: usize) -> Result<usize, HeaderError> {
     let mut length = usize::from(first & 31);
     let mut byte = first;

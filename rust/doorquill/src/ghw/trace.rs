@@ -15,8 +15,8 @@ pub struct Trace<'a> {
     hierarchy: Hierarchy,
 }
 
-/// A signal as the tables know them: a scalar or an array of letters (`std_ulogic` or `bit`) in a signal that is declared. Records and other arrays are
-/// their elements, each by itself.
+/// A signal as the tables know them: a scalar or an array of letters (`std_ulogic` or `bit`) in a signal that is
+/// declared. Records and other arrays are their elements, each by itself.
 #[derive(Clone, Copy)]
 pub struct Signal<'t> {
     trace: &'t Trace<'t>,
@@ -78,7 +78,8 @@ impl<'a> Trace<'a> {
 
     /// The tables that the sections are read by.
     ///
-    /// They are good by document 01's checks as long as they are within its limits ([`ids`](Trace::ids) and [`Tables::vectors`]).
+    /// They are good by document 01's checks as long as they are within its limits ([`ids`](Trace::ids) and
+    /// [`Tables::vectors`]).
     pub fn tables(&self) -> &Tables {
         &self.hierarchy.gatherer.tables
     }
@@ -120,18 +121,8 @@ impl<'a> Trace<'a> {
 
     /// The signal of this path.
     pub fn find(&self, path: &str) -> Option<Signal<'_>> {
-        let rests = self.rests(path);
-        let declarations = &self.hierarchy.declarations;
-        let named = |declaration: &Declaration| {
-            rests[declaration.scope as usize].and_then(|rest| rest.strip_prefix(&*self.strings.text(declaration.name)))
-        };
-        let found = declarations.iter().enumerate().filter_map(|(number, d)| Some((number, named(d)?)));
-        found.flat_map(|(number, rest)| self.leaves(number).map(move |signal| (signal, rest))).find_map(
-            |(signal, rest)| {
-                let whole = signal.suffix() == rest;
-                whole.then(|| signal)
-            },
-        )
+        let whole = |&(signal, rest): &(Signal<'_>, &str)| signal.suffix() == rest;
+        self.named(path).into_iter().find(whole).map(|(signal, _)| signal)
     }
 
     /// The scope of this path.
@@ -144,17 +135,24 @@ impl<'a> Trace<'a> {
 
     /// The signals that a declared record or array of this path is made of; none where it is no such thing.
     pub fn elements(&self, path: &str) -> Vec<Signal<'_>> {
-        let rests = self.rests(path);
-        let declarations = self.hierarchy.declarations.iter().enumerate();
-        let inside = |signal: &Signal, rest: &str| {
+        let inside = |signal: Signal, rest: &str| {
             let suffix = signal.suffix();
             suffix.strip_prefix(rest).map_or(false, |more| more.starts_with(|c| c == '.' || c == '('))
         };
-        let found = declarations.filter_map(|(number, d)| {
-            let rest = rests[d.scope as usize]?.strip_prefix(&*self.strings.text(d.name))?;
-            Some((number, rest))
-        });
-        found.flat_map(|(number, rest)| self.leaves(number).filter(move |signal| inside(signal, rest))).collect()
+        self.named(path).into_iter().filter(|&(signal, rest)| inside(signal, rest)).map(|(signal, _)| signal).collect()
+    }
+
+    /// The signals whose declared name a path begins with, and what is left of the path behind it.
+    fn named<'p>(&self, path: &'p str) -> Vec<(Signal<'_>, &'p str)> {
+        let rests = self.rests(path);
+        let mut found = vec![];
+        for (number, declaration) in self.hierarchy.declarations.iter().enumerate() {
+            let name = rests[declaration.scope as usize].map(|rest| (rest, self.strings.text(declaration.name)));
+            if let Some(rest) = name.and_then(|(rest, name)| rest.strip_prefix(&*name)) {
+                found.extend(self.leaves(number).map(|signal| (signal, rest)));
+            }
+        }
+        found
     }
 
     fn leaves(&self, declaration: usize) -> impl Iterator<Item = Signal<'_>> {
@@ -308,7 +306,8 @@ impl<'t> Signal<'t> {
         self.leaf().width
     }
 
-    /// The reference that its events have; none of a signal that has no events of its own, so that nobody counts by one and finds nothing.
+    /// The reference that its events have; none of a signal that has no events of its own, so that nobody counts by one
+    /// and finds nothing.
     pub fn reference(&self) -> Option<u32> {
         let leaf = self.leaf();
         matches!(leaf.role, Role::Own | Role::Alias { .. }).then(|| leaf.reference)

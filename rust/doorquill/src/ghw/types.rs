@@ -80,7 +80,8 @@ pub(super) enum Body {
         element: usize,
         ranges: Vec<Range>,
     },
-    /// A record. Of its elements only those that have scalars; `ends` counts the scalars up to each one's end. `all` are all of them, where some are open.
+    /// A record. Of its elements only those that have scalars; `ends` counts the scalars up to each one's end. `all`
+    /// are all of them, where some are open.
     Record {
         base: Option<usize>,
         fields: Vec<Field>,
@@ -308,7 +309,8 @@ impl Types {
         self.record(name, Some(root), fields, place)
     }
 
-    /// The bounds of an element's type, as a type of its own. Each call is one nest deeper in types that were read: no deeper than `DEEPEST`.
+    /// The bounds of an element's type, as a type of its own. Each call is one nest deeper in types that were read: no
+    /// deeper than `DEEPEST`.
     fn bounds(&mut self, cursor: &mut Cursor, open: usize, place: usize) -> Result<usize, HeaderError> {
         let bound = match self.all[self.root(open)].body {
             Body::Record { .. } => self.bound_record(cursor, 0, open, place)?,
@@ -362,8 +364,8 @@ impl Types {
         }
     }
 
-    /// Calls `leaf` for each scalar and each array of letters in a type, from left to right, with its type and how many scalars stand before it. What has no
-    /// scalars is passed over. No deeper than `DEEPEST`.
+    /// Calls `leaf` for each scalar and each array of letters in a type, from left to right, with its type and how many
+    /// scalars stand before it. What has no scalars is passed over. No deeper than `DEEPEST`.
     pub fn leaves<E>(
         &self,
         index: usize,
@@ -390,7 +392,8 @@ impl Types {
         }
     }
 
-    /// The way from a type down to the scalar, or the array of letters, of so many scalars that begins at one of them; and its type.
+    /// The way from a type down to the scalar, or the array of letters, of so many scalars that begins at one of them;
+    /// and its type.
     pub fn descend(&self, mut index: usize, mut at: u64, scalars: u64) -> (Vec<Step<'_>>, usize) {
         let mut steps = vec![];
         loop {
@@ -489,7 +492,8 @@ impl Types {
         }
     }
 
-    /// A value of a type, as it stands behind a for-generate's name: one byte of an enumeration, eight of a real, else a signed number.
+    /// A value of a type, as it stands behind a for-generate's name: one byte of an enumeration, eight of a real, else
+    /// a signed number.
     pub fn value_text(&self, cursor: &mut Cursor, strings: &Strings, index: usize) -> Result<String, HeaderError> {
         let place = cursor.at();
         let root = self.scalar_root(index);
