@@ -1,5 +1,5 @@
 /* The worked example of the rules, through the header: prints its events as the listing does.
- *   cc worked_example.c -I include -L target/staticlib -ldoorquill */
+ *   cc include/worked_example.c -I include -L target/staticlib -ldoorquill */
 #include "doorquill.h"
 #include <inttypes.h>
 #include <stdio.h>
@@ -38,10 +38,16 @@ int main(void)
     const uint32_t mins[] = {2}, maxs[] = {3}, vec_refs[] = {2};
     const uint8_t states[] = {1};
     const uint8_t input[] = {
-        'S', 'N', 'P', 0, 0,  0, 0, 0, 0, 0, 0, 0,    0, 0, 0, 0, 3,    1,   0,   0x2a, 'E', 'S', 'N', 0, /* a snapshot at time 0 */
-        'C', 'Y', 'C', 0, 10, 0, 0, 0, 0, 0, 0, 0,    3, 1, 0, 5, 1,    4,   0,   0x7f, 'E', 'C', 'Y', 0, /* steps at 10 and at 15 */
-        'T', 'A', 'I', 0, 0,  0, 0, 0, 0, 0, 0, 0,
+        /* a snapshot: time 0, a value for each id */
+        'S', 'N', 'P', 0, 0, 0, 0, 0, 0, 0, 0, 0, 0, 0, 0, 0,
+        3, 1, 0, 0x2a, 'E', 'S', 'N', 0,
+        /* a cycle: time 10, id 3 takes 1; 5 later id 1 takes 4; the end */
+        'C', 'Y', 'C', 0, 10, 0, 0, 0, 0, 0, 0, 0,
+        3, 1, 0, 5, 1, 4, 0, 0x7f, 'E', 'C', 'Y', 0,
+        /* the tailer */
+        'T', 'A', 'I', 0, 0, 0, 0, 0, 0, 0, 0, 0,
     };
+    /* room that is always enough for events, and what check 6 asks for: 1 value byte, 1 mask byte, 2 flag bytes, 1 number */
     uint8_t events[13 * sizeof input], values[64], room[4];
     uint32_t list[1];
     doorquill_answer answer = doorquill_read_sections(kinds, 4, refs, 4, vecs, 4, mins, 1, maxs, 1, states, 1, vec_refs, 1, false, input,

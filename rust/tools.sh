@@ -1,9 +1,11 @@
+# shellcheck shell=sh disable=SC2034,SC2154
 # Read by the scripts of this folder, with `root` and `out` set: installs what building for x86-64 needs, and defines
 #   cargo ..     cargo with Debian's copy of the one crate that is not ours, and the flags for this machine
 #   under ..     runs an x86-64 program
 #   built KIND   the folder where cargo puts programs of that kind, debug or release
 #   static_flags sets what links programs without a library of the system
 #   prefix       what stands before the names of the tools for x86-64
+#   across       what makes cargo run documentation tests under an emulator, where there is one
 #   archives     makes the proved archives where `rt` is at hand, and sets DOORQUILL_LIB to their folder
 #   left_out ..  ends the script with a message and status 0
 log=$out/install.log
@@ -56,8 +58,6 @@ aarch64)
     RUSTDOC=$(dpkg -L rustc | grep -m1 'bin/rustdoc$')
     export RUSTC RUSTDOC CARGO_BUILD_TARGET=x86_64-unknown-linux-gnu
     export CARGO_TARGET_X86_64_UNKNOWN_LINUX_GNU_LINKER=x86_64-linux-gnu-gcc CARGO_TARGET_X86_64_UNKNOWN_LINUX_GNU_RUNNER=qemu-x86_64
-    # What runs documentation tests under an emulator is not in a stable cargo.
-    export RUSTC_BOOTSTRAP=1
     across='-Z doctest-xcompile'
     ;;
 *) left_out "neither x86-64 nor Arm" ;;
