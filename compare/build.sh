@@ -1,5 +1,5 @@
 #!/bin/sh
-# Builds target/compare/compare. With an archive named by PORT (target/staticlib/libdoorquill.a) the port is linked in;
+# Builds target/compare/compare. With an archive named by PORT (target/staticlib/libdoorquill.a) the port is linked in, and where libbench.a lies beside it the drop-in too;
 # with PORT=fake the plain reading stands behind the same C functions; without it the port is left out.
 # RUSTC names the compiler; TARGET_FLAGS are the flags for the program (none where it is native).
 set -eu
@@ -43,7 +43,7 @@ under=$(on calls leb128 smallvec num_enum thiserror)
 {
     known=
     # Newer compilers ask to be told of names that --cfg may give.
-    if $RUSTC --print cfg --check-cfg 'cfg(append)' > /dev/null 2>&1; then known="--check-cfg cfg(append) --check-cfg cfg(feature,values(any())) --check-cfg cfg(port) --check-cfg cfg(lent) --check-cfg cfg(written) --check-cfg cfg(fake)"; fi
+    if $RUSTC --print cfg --check-cfg 'cfg(append)' > /dev/null 2>&1; then known="--check-cfg cfg(append) --check-cfg cfg(dropin) --check-cfg cfg(feature,values(any())) --check-cfg cfg(port) --check-cfg cfg(fake)"; fi
     rlib wellen_release shim/lib.rs $under $known
     rlib wellen_debug shim/lib.rs $under $known -C debug-assertions=on -C overflow-checks=on
     rlib wellen_append shim/lib.rs $under $known --cfg append
@@ -52,12 +52,15 @@ under=$(on calls leb128 smallvec num_enum thiserror)
     '') link= ;;
     fake)
         rlib fake src/fake.rs $(on calls)
-        link="--cfg port --cfg lent --cfg written --cfg fake $(on fake)" ;;
+        link="--cfg port --cfg fake $(on fake)" ;;
     *)
         link="--cfg port -L native=$(dirname "$PORT") -l static=$(basename "$PORT" .a | sed 's/^lib//')"
-        # The entry over lent vector records came after the others, sections written and read back after that.
-        if grep -q doorquill_read_sections_lent "$PORT"; then link="$link --cfg lent"; fi
-        if grep -q doorquill_write_sections "$PORT"; then link="$link --cfg written"; fi ;;
+        # The drop-in stands on the safe crate, which calls the bench too.
+        if [ -f "$(dirname "$PORT")/libbench.a" ]; then
+            rlib doorquill ../rust/doorquill/src/lib.rs -L "native=$(dirname "$PORT")" -l static=bench
+            rlib wellen_dropin shim/lib.rs $under $(on doorquill) $known --cfg dropin
+            link="$link --cfg dropin $(on doorquill wellen_dropin)"
+        fi ;;
     esac
     $RUSTC --edition 2021 --crate-name compare $fast ${TARGET_FLAGS:-} -L "$OUT" $known $all $link -o "$OUT/compare" "$here/src/main.rs"
 }

@@ -2,10 +2,10 @@
 # A short comparison, a minute or two: the plain reading of document 01, the crate's own code and, where its archive can be
 # made, the port. Ends with 0 and a plain message where its needs can't be met, and with 1 on a difference.
 #   WELLEN_SRC  the crate's source folder (default: ../shared/docs/src beside the repository)
-#   PORT        the archive to link (default: made by `rt staticlib doorquill`, or target/staticlib/libdoorquill.a); none: without it
+#   PORT        the archive to link, and libbench.a beside it (default: made by `rt staticlib`, or target/staticlib/libdoorquill.a); none: without it
 #   SAMPLES     real files (default: ../shared/samples beside the repository), left out where they're missing
 #   LIST        the fixed list, to be put to every side again (default: left out)
-#   SEED, SECTIONS, CHANGES, EVENTS, STREAMS   what `compare run` and `compare written` take
+#   SEED, SECTIONS, CHANGES, EVENTS, STREAMS, INPUTS   what `compare run`, `compare written` and `compare dropin` take
 # On x86-64 any rustc from 1.63 on will do. On Arm the program is built for x86-64 by Debian's rustc and run by an emulator, on fewer inputs.
 set -u
 here=$(cd "$(dirname "$0")" && pwd)
@@ -43,7 +43,7 @@ for file in ghw/signals.rs ghw/common.rs signal/value.rs wavemem.rs; do
 done
 
 under='' more=''
-sections=200000 changes=100000 events=100000 streams=30000
+sections=200000 changes=100000 events=100000 streams=30000 inputs=50000
 case $(uname -m) in
 x86_64)
     command -v "${RUSTC:-rustc}" > /dev/null || install rustc
@@ -60,7 +60,7 @@ aarch64)
     TARGET_FLAGS="--target x86_64-unknown-linux-gnu -C linker=x86_64-linux-gnu-gcc"
     export RUSTC TARGET_FLAGS
     under=qemu-x86_64
-    more=--no-exhaustive sections=40000 changes=20000 events=20000 streams=2000
+    more=--no-exhaustive sections=40000 changes=20000 events=20000 streams=2000 inputs=10000
     ;;
 *) left_out "neither x86-64 nor Arm" ;;
 esac
@@ -68,8 +68,8 @@ esac
 archive=$root/target/staticlib/libdoorquill.a
 if [ -z "${PORT:-}" ]; then
     if command -v rt > /dev/null && [ -d "$root/crates/doorquill" ]; then
-        (cd "$root" && rt staticlib doorquill) > "$OUT/staticlib.log" 2>&1 || {
-            echo "compare: the archive of the port was not made:"
+        (cd "$root" && rt staticlib doorquill && rt staticlib bench) > "$OUT/staticlib.log" 2>&1 || {
+            echo "compare: the archives of the port were not made:"
             tail -n 20 "$OUT/staticlib.log"
             exit 1
         }
@@ -89,3 +89,9 @@ if [ -f "${LIST:-}" ]; then compare replay "$LIST" || exit 1; fi
 compare run --seed "${SEED:-1}" --sections "${SECTIONS:-$sections}" --changes "${CHANGES:-$changes}" --events "${EVENTS:-$events}" $more || exit 1
 # shellcheck disable=SC2086
 compare written --seed "${SEED:-1}" --streams "${STREAMS:-$streams}" $more || exit 1
+if [ -f "$(dirname "${PORT:-.}")/libbench.a" ]; then
+    real=''
+    [ -d "$samples" ] && real="--samples $samples"
+    # shellcheck disable=SC2086
+    compare dropin --seed "${SEED:-1}" --inputs "${INPUTS:-$inputs}" $real || exit 1
+fi

@@ -1,7 +1,7 @@
 //! The crate's own files, unedited, in the module tree that they ask for. They are taken at build time from the folder
 //! WELLEN_SRC; the encoder's text is cut out of `wavemem.rs` at build time into ENCODER_TEXT.
 //! What stands in for the rest of the crate is in this file. `--cfg append` chooses the encoder that the benchmark
-//! uses; without it the encoder records each call.
+//! uses; without it the encoder records each call. `--cfg dropin` takes Doorquill's own file (`rust/wellen`) in place of the crate's `signals.rs`.
 #![allow(dead_code, unused_imports, unused_macros, unstable_name_collisions)]
 
 use std::num::NonZeroU32;
@@ -36,6 +36,10 @@ pub mod ghw {
         }
     }
 
+    #[cfg(dropin)]
+    pub use crate::replaced as signals;
+
+    #[cfg(not(dropin))]
     pub mod signals {
         include!(concat!(env!("WELLEN_SRC"), "/src/ghw/signals.rs"));
 
@@ -115,11 +119,19 @@ pub mod wavemem {
     }
 }
 
-#[cfg(not(append))]
+#[cfg(dropin)]
+#[path = "../../rust/wellen/signals.rs"]
+pub mod replaced;
+
+#[cfg(not(any(append, dropin)))]
 pub mod time;
 
-#[cfg(not(append))]
+#[cfg(not(any(append, dropin)))]
 #[path = "drive.rs"]
+pub mod drive;
+
+#[cfg(dropin)]
+#[path = "drive_dropin.rs"]
 pub mod drive;
 
 #[cfg(append)]

@@ -3,18 +3,13 @@
 #![allow(clippy::missing_safety_doc, clippy::too_many_arguments, dead_code)]
 #[path = "plain.rs"]
 mod plain;
+#[path = "../../rust/doorquill/src/raw.rs"]
+mod raw;
 #[path = "written.rs"]
 mod written;
-use plain::{Answer, Outcome, Rooms};
+use plain::{Outcome, Rooms};
+use raw::{Answer, Vector};
 use std::slice::{from_raw_parts, from_raw_parts_mut};
-
-#[repr(C)]
-pub struct Vector {
-    min: u32,
-    max: u32,
-    state: u8,
-    reference: u32,
-}
 
 fn fault(name: &str) -> bool {
     std::env::var("FAKE_FAULT").map_or(false, |f| f == name)

@@ -1,7 +1,7 @@
 //! The port's entries across the C boundary. Each call lends copies between guards, outputs and working buffers full of
 //! garbage, and is checked for what the promise says of lent memory: inputs and guards untouched, outputs zero past
 //! the reported bytes (all of them on a refusal), working buffers zero.
-use crate::plain::Answer;
+use crate::raw::Answer;
 
 pub struct Answered {
     pub answer: Answer,
@@ -19,8 +19,6 @@ pub struct Host {
 impl Host {
     pub const LINKED: bool = false;
     pub const NAME: &'static str = "no port";
-    pub const LENT: bool = false;
-    pub const WRITTEN: bool = false;
 
     /// None: the port isn't linked in.
     pub fn call(&mut self, _: &crate::cases::Case) -> Option<Result<Answered, String>> {
@@ -32,66 +30,10 @@ impl Host {
 mod linked {
     use super::{Answered, Host};
     use crate::cases::{Case, Entry};
-    use crate::plain::Answer;
+    use crate::raw::{self, Answer, Vector};
 
     #[cfg(fake)]
     extern crate fake;
-
-    /// A vector record as the host lends it: twelve bytes of numbers and one of state, on a stride of sixteen.
-    #[repr(C)]
-    #[derive(Clone, Copy)]
-    #[allow(dead_code)]
-    pub struct Vector {
-        min: u32,
-        max: u32,
-        state: u8,
-        reference: u32,
-    }
-
-    #[rustfmt::skip]
-    extern "C" {
-        fn doorquill_read_sections(
-            kinds: *const u8, kinds_len: usize, refs: *const u32, refs_len: usize, vecs: *const u32, vecs_len: usize,
-            mins: *const u32, mins_len: usize, maxs: *const u32, maxs_len: usize,
-            states: *const u8, states_len: usize, vec_refs: *const u32, vec_refs_len: usize,
-            big_endian: bool, input: *const u8, input_len: usize,
-            events: *mut u8, events_len: usize, values: *mut u8, values_len: usize,
-            room: *mut u8, room_len: usize, list: *mut u32, list_len: usize,
-        ) -> Answer;
-        fn doorquill_read_changes(
-            kinds: *const u8, kinds_len: usize, refs: *const u32, refs_len: usize, vecs: *const u32, vecs_len: usize,
-            mins: *const u32, mins_len: usize, maxs: *const u32, maxs_len: usize,
-            states: *const u8, states_len: usize, vec_refs: *const u32, vec_refs_len: usize,
-            input: *const u8, input_len: usize,
-            events: *mut u8, events_len: usize, values: *mut u8, values_len: usize,
-            room: *mut u8, room_len: usize, list: *mut u32, list_len: usize,
-        ) -> Answer;
-        fn doorquill_time_rule(
-            events: *const u8, events_len: usize, values: *const u8, values_len: usize, kept: *mut u8, kept_len: usize,
-        ) -> Answer;
-        #[cfg(lent)]
-        fn doorquill_read_sections_lent(
-            kinds: *const u8, kinds_len: usize, refs: *const u32, refs_len: usize, vecs: *const u32, vecs_len: usize,
-            vectors: *const Vector, vectors_len: usize, flat: *mut u32, flat_len: usize,
-            big_endian: bool, input: *const u8, input_len: usize,
-            events: *mut u8, events_len: usize, values: *mut u8, values_len: usize,
-            room: *mut u8, room_len: usize, list: *mut u32, list_len: usize,
-        ) -> Answer;
-        #[cfg(written)]
-        fn doorquill_write_sections(
-            kinds: *const u8, kinds_len: usize, refs: *const u32, refs_len: usize, vecs: *const u32, vecs_len: usize,
-            mins: *const u32, mins_len: usize, maxs: *const u32, maxs_len: usize,
-            states: *const u8, states_len: usize, vec_refs: *const u32, vec_refs_len: usize,
-            big_endian: bool, changes: *const u8, changes_len: usize, out: *mut u8, out_len: usize,
-        ) -> Answer;
-        #[cfg(written)]
-        fn doorquill_read_back(
-            kinds: *const u8, kinds_len: usize, refs: *const u32, refs_len: usize, vecs: *const u32, vecs_len: usize,
-            mins: *const u32, mins_len: usize, maxs: *const u32, maxs_len: usize,
-            states: *const u8, states_len: usize, vec_refs: *const u32, vec_refs_len: usize,
-            big_endian: bool, input: *const u8, input_len: usize, out: *mut u8, out_len: usize,
-        ) -> Answer;
-    }
 
     /// The tables as the table entries take them.
     pub struct Tables<'a> {
@@ -115,7 +57,7 @@ mod linked {
     #[rustfmt::skip]
     pub fn read_sections(t: &Tables, big_endian: bool, input: &[u8], o: Out) -> Answer {
         unsafe {
-            doorquill_read_sections(
+            raw::doorquill_read_sections(
                 t.kinds.as_ptr(), t.kinds.len(), t.refs.as_ptr(), t.refs.len(), t.vecs.as_ptr(), t.vecs.len(),
                 t.mins.as_ptr(), t.mins.len(), t.maxs.as_ptr(), t.maxs.len(),
                 t.states.as_ptr(), t.states.len(), t.vec_refs.as_ptr(), t.vec_refs.len(),
@@ -129,7 +71,7 @@ mod linked {
     #[rustfmt::skip]
     pub fn read_changes(t: &Tables, input: &[u8], o: Out) -> Answer {
         unsafe {
-            doorquill_read_changes(
+            raw::doorquill_read_changes(
                 t.kinds.as_ptr(), t.kinds.len(), t.refs.as_ptr(), t.refs.len(), t.vecs.as_ptr(), t.vecs.len(),
                 t.mins.as_ptr(), t.mins.len(), t.maxs.as_ptr(), t.maxs.len(),
                 t.states.as_ptr(), t.states.len(), t.vec_refs.as_ptr(), t.vec_refs.len(),
@@ -140,11 +82,10 @@ mod linked {
         }
     }
 
-    #[cfg(lent)]
     #[rustfmt::skip]
     pub fn read_sections_lent(t: &Tables, vectors: &[Vector], flat: &mut [u32], big_endian: bool, input: &[u8], o: Out) -> Answer {
         unsafe {
-            doorquill_read_sections_lent(
+            raw::doorquill_read_sections_lent(
                 t.kinds.as_ptr(), t.kinds.len(), t.refs.as_ptr(), t.refs.len(), t.vecs.as_ptr(), t.vecs.len(),
                 vectors.as_ptr(), vectors.len(), flat.as_mut_ptr(), flat.len(),
                 big_endian, input.as_ptr(), input.len(),
@@ -154,16 +95,10 @@ mod linked {
         }
     }
 
-    #[cfg(not(lent))]
-    pub fn read_sections_lent(_: &Tables, _: &[Vector], _: &mut [u32], _: bool, _: &[u8], _: Out) -> Answer {
-        unreachable!("not in the archive")
-    }
-
-    #[cfg(written)]
     #[rustfmt::skip]
     pub fn write_sections(t: &Tables, big_endian: bool, changes: &[u8], out: &mut [u8]) -> Answer {
         unsafe {
-            doorquill_write_sections(
+            raw::doorquill_write_sections(
                 t.kinds.as_ptr(), t.kinds.len(), t.refs.as_ptr(), t.refs.len(), t.vecs.as_ptr(), t.vecs.len(),
                 t.mins.as_ptr(), t.mins.len(), t.maxs.as_ptr(), t.maxs.len(),
                 t.states.as_ptr(), t.states.len(), t.vec_refs.as_ptr(), t.vec_refs.len(),
@@ -172,11 +107,10 @@ mod linked {
         }
     }
 
-    #[cfg(written)]
     #[rustfmt::skip]
     pub fn read_back(t: &Tables, big_endian: bool, input: &[u8], out: &mut [u8]) -> Answer {
         unsafe {
-            doorquill_read_back(
+            raw::doorquill_read_back(
                 t.kinds.as_ptr(), t.kinds.len(), t.refs.as_ptr(), t.refs.len(), t.vecs.as_ptr(), t.vecs.len(),
                 t.mins.as_ptr(), t.mins.len(), t.maxs.as_ptr(), t.maxs.len(),
                 t.states.as_ptr(), t.states.len(), t.vec_refs.as_ptr(), t.vec_refs.len(),
@@ -185,18 +119,8 @@ mod linked {
         }
     }
 
-    #[cfg(not(written))]
-    pub fn write_sections(_: &Tables, _: bool, _: &[u8], _: &mut [u8]) -> Answer {
-        unreachable!("not in the archive")
-    }
-
-    #[cfg(not(written))]
-    pub fn read_back(_: &Tables, _: bool, _: &[u8], _: &mut [u8]) -> Answer {
-        unreachable!("not in the archive")
-    }
-
     pub fn time_rule(events: &[u8], values: &[u8], kept: &mut [u8]) -> Answer {
-        unsafe { doorquill_time_rule(events.as_ptr(), events.len(), values.as_ptr(), values.len(), kept.as_mut_ptr(), kept.len()) }
+        unsafe { raw::doorquill_time_rule(events.as_ptr(), events.len(), values.as_ptr(), values.len(), kept.as_mut_ptr(), kept.len()) }
     }
 
     pub trait Word: Copy + Default + PartialEq {
@@ -292,16 +216,9 @@ mod linked {
     impl Host {
         pub const LINKED: bool = true;
         pub const NAME: &'static str = if cfg!(fake) { "FAKE port (the plain reading again)" } else { "port" };
-        /// The archive has the entry over lent vector records too.
-        pub const LENT: bool = cfg!(lent);
-        /// .. and the two of sections written and read back.
-        pub const WRITTEN: bool = cfg!(written);
 
         /// The port's answer to a case, or what it did to lent memory that it must not.
         pub fn call(&mut self, case: &Case) -> Option<Result<Answered, String>> {
-            if case.entry == Entry::Lent && !Self::LENT || case.entry.circle() && !Self::WRITTEN {
-                return None;
-            }
             self.calls += 1;
             Some(match case.entry {
                 Entry::Events => time_rule_checked(case),

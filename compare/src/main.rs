@@ -2,11 +2,16 @@
 mod bench;
 mod cases;
 mod circle;
+#[cfg(dropin)]
+mod dropin;
 mod gathering;
 mod gen;
 mod host;
 mod judge;
 mod plain;
+#[allow(dead_code)]
+#[path = "../../rust/doorquill/src/raw.rs"]
+mod raw;
 mod readings;
 mod runs;
 mod sample;
@@ -23,6 +28,8 @@ compare written [--seed S] [--streams N] [--no-exhaustive]
     change streams written as sections and read by all, and sections read back, until N streams went round
 compare readings          the inputs with chosen answers
 compare samples DIR       real files: NAME.ghw, NAME.listing-in, NAME.listing-out
+compare dropin [--seed S] [--inputs N] [--samples DIR]
+    Doorquill's file in place of the crate's own signals.rs (rust/wellen), beside that file
 compare limits            the largest buffers and one past them (up to 5 GB of memory)
 compare case FILE         what each side says of the cases of a file
 compare sample FILE       writes the fixed list; compare replay FILE puts it to every side again
@@ -91,7 +98,19 @@ fn written(args: &[String]) -> bool {
         );
         println!("  read back as the stream itself, written again as the same bytes");
     }
-    ended(seed, started, host::Host::WRITTEN, whole.is_ok())
+    ended(seed, started, host::Host::LINKED, whole.is_ok())
+}
+
+#[cfg(dropin)]
+fn dropin(args: &[String]) -> bool {
+    let dir = args.iter().position(|a| a == "--samples").and_then(|i| args.get(i + 1));
+    dropin::dropin(option(args, "--seed", 1), option(args, "--inputs", 50_000), dir.map(String::as_str))
+}
+
+#[cfg(not(dropin))]
+fn dropin(_: &[String]) -> bool {
+    println!("the drop-in isn't linked in: it needs the port's archive, and libbench.a beside it");
+    false
 }
 
 fn limits() -> bool {
@@ -114,6 +133,7 @@ fn main() {
     let good = match args.first().map(String::as_str) {
         Some("run") | Some("self") => run(&args),
         Some("written") => written(&args),
+        Some("dropin") => dropin(&args),
         Some("limits") => limits(),
         Some("readings") => readings::readings(),
         Some("samples") => readings::samples(&file()),

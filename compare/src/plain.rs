@@ -1,5 +1,6 @@
 //! A plain reading of document 01: the three entries, their refusals and the listing, slow and without the crate.
 //! It keeps no packed bytes and no masks: a vector is a list of its values and a list of "written since the last event".
+pub use crate::raw::Answer;
 pub use calls::Tables;
 
 pub const MOST_SIGNALS: usize = 65_535;
@@ -15,17 +16,6 @@ pub struct Rooms {
     pub room: usize,
     pub list: usize,
     pub flat: usize,
-}
-
-#[repr(C)]
-#[derive(Clone, Copy, Debug, Default, PartialEq, Eq)]
-pub struct Answer {
-    pub number: u64,
-    pub place: u64,
-    pub read: u64,
-    pub events: u64,
-    pub values: u64,
-    pub steps: u64,
 }
 
 /// Why an id was refused: what told it from other refusals of the same number.

@@ -134,7 +134,7 @@ fn with_rooms(s: &mut Session, rng: &mut Rng, case: Case) -> Go {
     let slack = rng.pick(&[0, 1, 40]);
     let case = fitted(case, slack);
     s.put(&case)?;
-    if Host::LENT && case.entry == Entry::Sections && rng.percent(30) {
+    if Host::LINKED && case.entry == Entry::Sections && rng.percent(30) {
         let even = case.tables.maxs.len() == case.tables.mins.len()
             && case.tables.states.len() == case.tables.mins.len()
             && case.tables.vec_refs.len() == case.tables.mins.len();
@@ -450,7 +450,7 @@ pub fn limits(s: &mut Session) -> Go {
             s.put(&Case { rooms, ..Case::new(Entry::Sections, &none, tail.clone()) })?;
             s.put(&Case { rooms, ..Case::new(Entry::Changes, &none, vec![]) })?;
         }
-        if Host::LENT {
+        if Host::LINKED {
             s.put(&Case { rooms: Rooms { flat: most, ..base }, ..Case::new(Entry::Lent, &none, tail.clone()) })?;
         }
         s.put(&Case { rooms: Rooms { events: most, ..base }, ..Case::new(Entry::Events, &none, vec![]) })?;
