@@ -1,6 +1,8 @@
 //! The samples through every subcommand, and words for every refusal: what was written is held to what is stored.
 //! `DOORQUILL_STORE=1` stores anew; the difference is then to be read.
 mod common;
+#[path = "../../doorquill/tests/listings/mod.rs"]
+mod listings;
 
 use common::run;
 use std::fs;
@@ -176,9 +178,8 @@ fn usage() {
 /// The listing program's text, line for line.
 #[test]
 fn raw_events_are_the_listing() {
-    for (sample, listing) in [("kinds_small", "listing_kinds"), ("reassembly_l12", "listing_reassembly")] {
-        let ran = run(&["events", "--raw", &format!("../samples/{sample}.ghw")]);
-        let stored = fs::read_to_string(format!("../../crates/{listing}/stdout")).unwrap();
+    for (sample, _, stored) in listings::listings() {
+        let ran = run(&["events", "--raw", &format!("../samples/{sample}")]);
         assert!(ran.out == stored && ran.err.is_empty() && ran.status == 0, "{sample}");
     }
 }

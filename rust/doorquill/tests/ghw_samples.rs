@@ -4,12 +4,10 @@ use doorquill::ghw::{open, HeaderFault, Trace};
 use std::fs;
 use std::path::PathBuf;
 
-fn top() -> PathBuf {
-    PathBuf::from(env!("CARGO_MANIFEST_DIR")).join("../..")
-}
+mod listings;
 
 fn sample(name: &str) -> Vec<u8> {
-    fs::read(top().join("rust/samples").join(name)).unwrap()
+    fs::read(PathBuf::from(env!("CARGO_MANIFEST_DIR")).join("../samples").join(name)).unwrap()
 }
 
 /// The listing program's input for a trace: its tables as records, the byte order, and the sections.
@@ -37,10 +35,9 @@ fn listing_input(trace: &Trace) -> Vec<u8> {
 
 #[test]
 fn tables_as_the_listing_program_has_them() {
-    for (name, listing) in [("kinds_small.ghw", "listing_kinds"), ("reassembly_l12.ghw", "listing_reassembly")] {
+    for (name, stored, _) in listings::listings() {
         let file = sample(name);
         let trace = open(&file).unwrap();
-        let stored = fs::read(top().join("crates").join(listing).join("stdin")).unwrap();
         assert!(listing_input(&trace) == stored, "{name}");
     }
 }

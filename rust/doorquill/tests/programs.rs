@@ -4,6 +4,7 @@ use std::fs;
 
 #[path = "../examples/listing.rs"]
 mod listing;
+mod listings;
 
 fn of(program: &str, file: &str) -> Vec<u8> {
     let path = format!("{}/../../crates/{program}/{file}", env!("CARGO_MANIFEST_DIR"));
@@ -12,9 +13,10 @@ fn of(program: &str, file: &str) -> Vec<u8> {
 
 #[test]
 fn the_listings() {
-    for program in ["listing", "listing_kinds", "listing_reassembly"] {
-        let text = listing::listing(&of(program, "stdin")).unwrap().expect("tables");
-        assert!(text.into_bytes() == of(program, "stdout"), "{program}: other lines");
+    let text = |input: &[u8]| listing::listing(input).unwrap().expect("tables");
+    assert!(text(&of("listing", "stdin")).into_bytes() == of("listing", "stdout"), "the worked example: other lines");
+    for (name, input, stored) in listings::listings() {
+        assert!(text(&input) == stored, "{name}: other lines");
     }
 }
 
