@@ -255,14 +255,21 @@ impl Port {
     }
 }
 
-pub fn bench(rounds: usize) -> bool {
-    let inputs = [
-        many_writes(),
-        fragments(),
-        wide(),
-        many_vectors("16,000 vectors of 4 bits, few writes", 16_000),
-        many_vectors("1,000 vectors of 4 bits, few writes", 1_000),
+/// All inputs, or the one of a row, counted from 1.
+pub fn bench(rounds: usize, row: Option<usize>) -> bool {
+    let makers: [fn() -> Input; 5] = [
+        many_writes,
+        fragments,
+        wide,
+        || many_vectors("16,000 vectors of 4 bits, few writes", 16_000),
+        || many_vectors("1,000 vectors of 4 bits, few writes", 1_000),
     ];
+    let chosen = makers.iter().enumerate().filter(|(i, _)| row.map_or(true, |row| row == i + 1));
+    let inputs: Vec<Input> = chosen.map(|(_, make)| make()).collect();
+    if inputs.is_empty() {
+        println!("there are rows 1 to {}", makers.len());
+        return false;
+    }
     let mut good = true;
     println!("crate and {}: {} rounds each, alternating; medians of processor time in milliseconds", crate::host::Host::NAME, rounds);
     println!("the crate's two vectors are emptied and keep their room; the port's rooms are exactly enough and aren't cleared");

@@ -33,7 +33,7 @@ compare dropin [--seed S] [--inputs N] [--samples DIR]
 compare limits            the largest buffers and one past them (up to 5 GB of memory)
 compare case FILE         what each side says of the cases of a file
 compare sample FILE       writes the fixed list; compare replay FILE puts it to every side again
-compare bench [ROUNDS]    times";
+compare bench [ROUNDS [ROW]]    times";
 
 fn option(args: &[String], name: &str, otherwise: u64) -> u64 {
     match args.iter().position(|a| a == name) {
@@ -140,7 +140,10 @@ fn main() {
         Some("case") => readings::cases(&file()),
         Some("sample") => sample::write(&file()),
         Some("replay") => sample::replay(&file()),
-        Some("bench") => bench::bench(args.get(1).and_then(|n| n.parse().ok()).unwrap_or(9)),
+        Some("bench") => {
+            let number = |i: usize| args.get(i).and_then(|n: &String| n.parse().ok());
+            bench::bench(number(1).unwrap_or(9), number(2))
+        }
         _ => {
             eprintln!("{}", HELP);
             exit(2)
