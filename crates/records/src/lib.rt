@@ -2,7 +2,7 @@
 use numbers::house::get_u32;
 use numbers::house::get_u64;
 use numbers::house::put_u32;
-use slices::copy_part;
+use numbers::house::put_u64;
 use slices::write_at;
 use states::States;
 ghost use mathlib.Core.Path.{_≡_};
@@ -10,11 +10,10 @@ ghost use Prim.Native.Nat.{ℕ, _+_, _≤_};
 ghost use mathlib.Core.Bool.{cond, _||_};
 ghost use lib.Dec.{eqb};
 ghost use mathlib.Core.List.{List, [], _∷_};
-ghost use lib.ListN.{length, take};
+ghost use lib.ListN.{length};
 ghost use Rattle.slices.specs.Splice.{splice, part};
 ghost use Rattle.numbers.specs.Fixed.{big};
 ghost use Rattle.records.specs.Event.{Event, kindOf, recordBytes};
-ghost use Rattle.records.specs.Event.Laws.{three};
 ghost use Rattle.records.specs.Out.Laws.{EventsRoom, ValuesRoom, Appends, roomFor, counted};
 ghost use Rattle.records.specs.Stream.{eventLength, recordAt, isTime, inValues, judged, nextEvent};
 ghost use Rattle.records.specs.Stream.Code.{Whole, Known};
@@ -43,25 +42,41 @@ fn kind_of(states: States) -> u8
     }
 }
 
-// A body of three numbers, built beside the room.
-fn body_of(a: u32, b: u32, c: u32) -> [u8; 12]
-    ensures { λ r. ⌜ r ≡ three a b c ⌝ }
+fn put_kind(events: &mut [u8], at: usize, kind: u8)
+    requires { ⌜ at + 1 ≤ length (now events) ⌝ }
+    ensures { λ _. ⌜ now (events .exit) ≡ splice (now (events .entry)) at (kind ∷ []) ⌝ }
 {
-    let mut body = [0u8; 12];
-    put_u32(&mut body, 0, a);
-    put_u32(&mut body, 4, b);
-    put_u32(&mut body, 8, c);
-    body
+    events[at] = kind;
 }
 
-// Appends a kind and the first `n` bytes of a body of three numbers.
-fn append_body(events: &mut [u8], at: usize, kind: u8, a: u32, b: u32, c: u32, n: usize)
-    requires { ⌜ (n ≤ 12) × (at + 1 + n ≤ length (now events)) ⌝ }
-    ensures { λ _. ⌜ now (events .exit) ≡ splice (now (events .entry)) at (kind ∷ take n (three a b c)) ⌝ }
+// A kind and a number of 64 bits.
+fn put_time(events: &mut [u8], at: usize, time: u64)
+    requires { ⌜ at + 9 ≤ length (now events) ⌝ }
+    ensures { λ _. ⌜ now (events .exit) ≡ splice (now (events .entry)) at (recordBytes (Record.Time time)) ⌝ }
 {
-    let body = body_of(a, b, c);
-    events[at] = kind;
-    copy_part(&body, 0, n, events, at + 1);
+    put_kind(events, at, 1);
+    put_u64(events, at + 1, time);
+}
+
+// A kind and three numbers.
+fn put_value(events: &mut [u8], at: usize, states: States, reference: u32, start: u32, count: u32)
+    requires { ⌜ at + 13 ≤ length (now events) ⌝ }
+    ensures { λ _. ⌜ now (events .exit) ≡ splice (now (events .entry)) at (recordBytes (Record.Value states reference start count)) ⌝ }
+{
+    put_kind(events, at, kind_of(states));
+    put_u32(events, at + 1, reference);
+    put_u32(events, at + 5, start);
+    put_u32(events, at + 9, count);
+}
+
+// A kind, a number, and one of 64 bits.
+fn put_real(events: &mut [u8], at: usize, reference: u32, bits: u64)
+    requires { ⌜ at + 13 ≤ length (now events) ⌝ }
+    ensures { λ _. ⌜ now (events .exit) ≡ splice (now (events .entry)) at (recordBytes (Record.Real reference bits)) ⌝ }
+{
+    put_kind(events, at, 4);
+    put_u32(events, at + 1, reference);
+    put_u64(events, at + 5, bits);
 }
 
 // Appends the record of an event at `at`, and says how long it is.
@@ -72,15 +87,7 @@ pub fn append_event(events: &mut [u8], at: usize, event: Record) -> usize
 {
     match event {
         Record::Time(time) => {
-            append_body(
-                events,
-                at,
-                1,
-                (time >> 32) as u32,
-                (time % 0x1_0000_0000) as u32,
-                0,
-                8,
-            );
+            put_time(events, at, time);
             9
         }
         Record::Value {
@@ -89,19 +96,11 @@ pub fn append_event(events: &mut [u8], at: usize, event: Record) -> usize
             start,
             length,
         } => {
-            append_body(events, at, kind_of(states), reference, start, length, 12);
+            put_value(events, at, states, reference, start, length);
             13
         }
         Record::Real { reference, bits } => {
-            append_body(
-                events,
-                at,
-                4,
-                reference,
-                (bits >> 32) as u32,
-                (bits % 0x1_0000_0000) as u32,
-                12,
-            );
+            put_real(events, at, reference, bits);
             13
         }
     }

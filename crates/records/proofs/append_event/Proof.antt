@@ -7,35 +7,20 @@ use Rattle.records.proofs.append_event.Tie as tie
 enum-known-event : tie.Need-enum-known-event
 enum-known-event c = search (event-laws, needs)
 
-cast-append-body : tie.Need-cast-append-body
-cast-append-body c = search (event-laws, needs)
-
-cast-append-body-2 : tie.Need-cast-append-body-2
-cast-append-body-2 c = search (event-laws, needs)
-
-append-body-requires : tie.Need-append-body-requires
-append-body-requires c κs = search (event-laws, needs)
+put-time-requires : tie.Need-put-time-requires
+put-time-requires c κs = search (event-laws, needs)
 
 enum-known-event-2 : tie.Need-enum-known-event-2
 enum-known-event-2 c = search (event-laws, needs)
 
-kind-of-requires : tie.Need-kind-of-requires
-kind-of-requires c κs = search (event-laws, needs)
-
-append-body-requires-2 : tie.Need-append-body-requires-2
-append-body-requires-2 c κs = search (event-laws, needs)
+put-value-requires : tie.Need-put-value-requires
+put-value-requires c κs = search (event-laws, needs)
 
 enum-known-event-3 : tie.Need-enum-known-event-3
 enum-known-event-3 c = search (event-laws, needs)
 
-cast-append-body-3 : tie.Need-cast-append-body-3
-cast-append-body-3 c = search (event-laws, needs)
-
-cast-append-body-4 : tie.Need-cast-append-body-4
-cast-append-body-4 c = search (event-laws, needs)
-
-append-body-requires-3 : tie.Need-append-body-requires-3
-append-body-requires-3 c κs = search (event-laws, needs)
+put-real-requires : tie.Need-put-real-requires
+put-real-requires c κs = search (event-laws, needs)
 
 same-length : tie.Need-same-length
 same-length c = search (event-laws, needs)
@@ -60,16 +45,11 @@ append-event-spec =
     tie.close
     (tie.spec
     enum-known-event
-    cast-append-body
-    cast-append-body-2
-    append-body-requires
+    put-time-requires
     enum-known-event-2
-    kind-of-requires
-    append-body-requires-2
+    put-value-requires
     enum-known-event-3
-    cast-append-body-3
-    cast-append-body-4
-    append-body-requires-3
+    put-real-requires
     same-length
     returns
     same-length-2
