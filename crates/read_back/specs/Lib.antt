@@ -1,4 +1,3 @@
 -- The definitions that the promises of `read_back` cite.
 -- Assumes nothing.
 pub mod ReadBack
-pub mod Item

@@ -1,263 +1,35 @@
 // Section bytes back to change records.
-use numbers::fixed::Positive;
-use numbers::fixed::read_i64;
-use numbers::fixed::read_u32;
 use numbers::house::put_u32;
-use numbers::marks::ECY;
-use numbers::marks::EOD;
-use numbers::marks::ESN;
-use numbers::marks::Section;
-use numbers::marks::is_mark;
-use numbers::marks::section_at;
-use section_parts::NextId;
-use section_parts::NextTime;
-use section_parts::next_id;
-use section_parts::next_time;
+use section_heads::How;
+use section_heads::Phase;
+use section_heads::Said;
+use section_heads::Stand;
+use section_heads::standing;
+use sections::next_item;
+use sections::signal_kind;
 use slices::Field;
-use slices::field_at;
-use values::Read;
-use values::read_narrow;
-use values::read_real;
-use values::read_signed;
 use written::Written;
 use written::put_byte;
 use written::put_bytes;
 use written::put_fixed;
 ghost use mathlib.Core.Path.{_≡_};
-ghost use Prim.Native.Nat.{_+_, _<_, _≤_};
+ghost use Prim.Native.Nat.{_≤_, _<_};
 ghost use lib.ListN.{length};
-ghost use Rattle.tables.specs.Lists.{nth};
-ghost use Rattle.values.specs.Value.{value};
-ghost use Rattle.section_parts.specs.Parts.{withKinds};
-ghost use Rattle.read_back.specs.Item.Code.{IdOf, Ranged, Stand};
 ghost use mathlib.Core.List.{_∷_};
 ghost use Rattle.slices.specs.Field.{fieldOf};
 ghost use Rattle.numbers.specs.Fixed.{bigBytes};
+ghost use Rattle.section_parts.specs.Parts.{withKinds};
+ghost use Rattle.sections.specs.Item.{nextItem};
+ghost use Rattle.sections.specs.Item.Scans.{saidTimes};
 ghost use Rattle.written.specs.Ended.{Fills};
 ghost use Rattle.written.specs.Put.{Puts, afterPut};
 ghost use Rattle.read_back.specs.ReadBack.{byteOf, writeOf, readBack};
 ghost use Rattle.read_back.specs.ReadBack.Loop.{Ready};
-ghost use Rattle.read_back.specs.ReadBack.Turn.{Small, Fitting, Sounds, Counts, Does, saidBytes};
-ghost use Rattle.read_back.specs.Item.Scans.{saidTimes};
-ghost use Rattle.read_back.specs.declared.Item.the-variants.{Goes};
-ghost use Rattle.read_back.specs.Item.{endItem, openSnapshot, openCycle, openDirectory, opens, sectionItem, entryItem, timeItem, valueItem, snapshotItem, changeItem, nextItem};
-
-// Where a reading stands.
-pub enum Mode {
-    // At a section's mark.
-    Sections,
-    // In a directory, with so many entries left.
-    Entries(usize),
-    // In a snapshot, at the value of an id.
-    Values(usize),
-    // At a snapshot's end mark.
-    Closing,
-    // In a cycle's change list, after an id.
-    Changes { time: u64, id: usize },
-    // At a cycle's delta.
-    Between(u64),
-}
-
-// What bytes say.
-pub enum Said {
-    Nothing,
-    Time(u64),
-    Write { id: usize, value: u64 },
-    StepEnd,
-}
-
-// What was found at a place: what it says, where the reading stands then, and the place after it; the input's end; or a refusal.
-pub enum Item {
-    Goes(Said, Mode, usize),
-    Over(usize),
-    Bad(u64, usize),
-}
-
-const ZEROS: [u8; 4] = [0, 0, 0, 0];
-
-fn end_item(s: &[u8], at: usize, mark: &[u8; 4]) -> Item
-    ensures { λ r. ⌜ r ≡ endItem (now (mark .entry)) (now (s .entry)) at ⌝ }
-{
-    match field_at(s, at, 4) {
-        Field::Next(next) => {
-            if is_mark(s, at, mark) {
-                return Item::Goes(Said::Nothing, Mode::Sections, next);
-            }
-            Item::Bad(10, at)
-        }
-        Field::Short => Item::Bad(7, at),
-    }
-}
-
-fn open_snapshot(big_endian: bool, s: &[u8], at: usize) -> Item
-    ensures { λ r. ⌜ r ≡ openSnapshot «big_endian» (now (s .entry)) at ⌝ }
-{
-    match field_at(s, at, 12) {
-        Field::Next(next) => {
-            if is_mark(s, at, &ZEROS) {
-                let u = read_i64(big_endian, s, at + 4);
-                return Item::Goes(Said::Time(u), Mode::Values(1), next);
-            }
-            Item::Bad(9, at)
-        }
-        Field::Short => Item::Bad(7, at),
-    }
-}
-
-fn open_cycle(big_endian: bool, s: &[u8], at: usize) -> Item
-    ensures { λ r. ⌜ r ≡ openCycle «big_endian» (now (s .entry)) at ⌝ }
-{
-    match field_at(s, at, 8) {
-        Field::Next(next) => {
-            let u = read_i64(big_endian, s, at);
-            Item::Goes(Said::Time(u), Mode::Changes { time: u, id: 0 }, next)
-        }
-        Field::Short => Item::Bad(7, at),
-    }
-}
-
-fn open_directory(big_endian: bool, s: &[u8], at: usize) -> Item
-    ensures { λ r. ⌜ r ≡ openDirectory «big_endian» (now (s .entry)) at ⌝ }
-{
-    match field_at(s, at, 8) {
-        Field::Next(next) => match read_u32(big_endian, s, at + 4) {
-            Positive::Number(n) => Item::Goes(Said::Nothing, Mode::Entries(n as usize), next),
-            Positive::Negative => Item::Bad(11, at + 4),
-        },
-        Field::Short => Item::Bad(7, at),
-    }
-}
-
-// What a section holds that its mark at `mark` opens.
-fn opened(big_endian: bool, s: &[u8], section: Section, mark: usize, at: usize) -> Item
-    ensures { λ r. ⌜ r ≡ opens «big_endian» (now (s .entry)) section mark at ⌝ }
-{
-    match section {
-        Section::Snapshot => open_snapshot(big_endian, s, at),
-        Section::Cycle => open_cycle(big_endian, s, at),
-        Section::Directory => open_directory(big_endian, s, at),
-        Section::Tailer => match field_at(s, at, 8) {
-            Field::Next(next) => Item::Over(next),
-            Field::Short => Item::Bad(7, at),
-        },
-        Section::Unknown => Item::Bad(8, mark),
-    }
-}
-
-fn section_item(big_endian: bool, s: &[u8], at: usize) -> Item
-    ensures { λ r. ⌜ r ≡ sectionItem «big_endian» (now (s .entry)) at ⌝ }
-{
-    match field_at(s, at, 4) {
-        Field::Next(next) => opened(big_endian, s, section_at(s, at), at, next),
-        Field::Short => Item::Bad(7, at),
-    }
-}
-
-fn entry_item(big_endian: bool, s: &[u8], left: usize, at: usize) -> Item
-    ensures { λ r. ⌜ r ≡ entryItem «big_endian» (now (s .entry)) left at ⌝ }
-{
-    if left == 0 {
-        return end_item(s, at, &EOD);
-    }
-    match field_at(s, at, 4) {
-        Field::Next(second) => match field_at(s, second, 4) {
-            Field::Next(next) => match read_u32(big_endian, s, second) {
-                Positive::Number(_) => Item::Goes(Said::Nothing, Mode::Entries(left - 1), next),
-                Positive::Negative => Item::Bad(11, second),
-            },
-            Field::Short => Item::Bad(7, second),
-        },
-        Field::Short => Item::Bad(7, at),
-    }
-}
-
-fn signal_kind(kinds: &[u8], id: usize) -> u8
-    requires { ⌜ IdOf (now kinds) id ⌝ }
-    ensures { λ r. ⌜ r ≡ nth (now (kinds .entry)) id ⌝ }
-{
-    kinds[id - 1]
-}
-
-// The value of a kind. Not `values::read_value`: section reading calls that once, and so its loop takes it in.
-fn value_at(kind: u8, s: &[u8], at: usize) -> Read
-    ensures { λ r. ⌜ r ≡ value kind (now (s .entry)) at ⌝ }
-{
-    if kind <= 4 {
-        return read_narrow(kind, s, at);
-    }
-    if kind == 5 {
-        return read_signed(s, at);
-    }
-    read_real(s, at)
-}
-
-// The value of a signal; the reading stands at `mode` after it.
-fn value_item(kinds: &[u8], s: &[u8], id: usize, at: usize, mode: Mode) -> Item
-    requires { ⌜ IdOf (now kinds) id ⌝ }
-    ensures { λ r. ⌜ r ≡ valueItem (withKinds (now (kinds .entry))) (now (s .entry)) id at mode ⌝ }
-{
-    match value_at(signal_kind(kinds, id), s, at) {
-        Read::Value(value, next) => Item::Goes(Said::Write { id, value }, mode, next),
-        Read::Bad(number, place) => Item::Bad(number, place),
-    }
-}
-
-// The value of an id in a snapshot, or its step's end.
-fn snapshot_item(kinds: &[u8], s: &[u8], id: usize, at: usize) -> Item
-    requires { ⌜ 1 ≤ id ⌝ }
-    ensures { λ r. ⌜ r ≡ snapshotItem (withKinds (now (kinds .entry))) (now (s .entry)) id at ⌝ }
-{
-    if id <= kinds.len() {
-        return value_item(kinds, s, id, at, Mode::Values(id + 1));
-    }
-    Item::Goes(Said::StepEnd, Mode::Closing, at)
-}
-
-// What follows a delta in a change list.
-fn change_item(kinds: &[u8], s: &[u8], time: u64, found: NextId) -> Item
-    requires { ⌜ Ranged (now kinds) found ⌝ }
-    ensures { λ r. ⌜ r ≡ changeItem (withKinds (now (kinds .entry))) (now (s .entry)) time found ⌝ }
-{
-    match found {
-        NextId::Id(id, next) => value_item(kinds, s, id, next, Mode::Changes { time, id }),
-        NextId::End(next) => Item::Goes(Said::StepEnd, Mode::Between(time), next),
-        NextId::Bad(number, place) => Item::Bad(number, place),
-    }
-}
-
-// What follows a delta between steps.
-fn time_item(s: &[u8], found: NextTime) -> Item
-    ensures { λ r. ⌜ r ≡ timeItem (now (s .entry)) found ⌝ }
-{
-    match found {
-        NextTime::Time(time, next) => Item::Goes(
-            Said::Time(time),
-            Mode::Changes { time, id: 0 },
-            next,
-        ),
-        NextTime::End(next) => end_item(s, next, &ECY),
-        NextTime::Bad(number, place) => Item::Bad(number, place),
-    }
-}
-
-// What stands at a place.
-fn next_item(kinds: &[u8], big_endian: bool, s: &[u8], mode: Mode, at: usize) -> Item
-    requires { ⌜ Stand (now kinds) mode ⌝ }
-    ensures { λ r. ⌜ r ≡ nextItem (withKinds (now (kinds .entry))) «big_endian» (now (s .entry)) mode at ⌝ }
-{
-    match mode {
-        Mode::Sections => section_item(big_endian, s, at),
-        Mode::Entries(left) => entry_item(big_endian, s, left, at),
-        Mode::Values(id) => snapshot_item(kinds, s, id, at),
-        Mode::Closing => end_item(s, at, &ESN),
-        Mode::Changes { time, id } => change_item(kinds, s, time, next_id(kinds, s, id, at)),
-        Mode::Between(time) => time_item(s, next_time(s, time, at)),
-    }
-}
+ghost use Rattle.read_back.specs.ReadBack.Turn.{Small, Fitting, Sounds, Counts, Takes, Does, saidBytes};
 
 // How far the bytes have been read, and how many bytes of records have been written.
 struct Progress {
-    mode: Mode,
+    mode: Stand,
     read: usize,
     count: usize,
     steps: u64,
@@ -345,10 +117,10 @@ fn put_said(kinds: &[u8], out: &mut [u8], at: usize, said: Said) -> Field
     ensures { λ r. ⌜ Puts (now (out .entry)) at (saidBytes (now (kinds .entry)) said) (now (out .exit)) r ⌝ }
 {
     match said {
-        Said::Nothing => Field::Next(at),
         Said::Time(u) => put_time_record(out, at, u),
-        Said::Write { id, value } => put_write_record(out, at, signal_kind(kinds, id), id, value),
+        Said::Write { value, id } => put_write_record(out, at, signal_kind(kinds, id), id, value),
         Said::StepEnd => put_byte(out, at, 4),
+        _ => Field::Next(at),
     }
 }
 
@@ -356,17 +128,22 @@ fn times_said(said: Said) -> u64
     ensures { λ r. ⌜ (r ≡ saidTimes said) × (r ≤ 1) ⌝ }
 {
     match said {
-        Said::Nothing => 0,
         Said::Time(_) => 1,
-        Said::Write { .. } => 0,
-        Said::StepEnd => 0,
+        _ => 0,
     }
 }
 
 // An item that says something, or nothing.
-fn take_item(kinds: &[u8], out: &mut [u8], p: Progress, said: Said, mode: Mode, next: usize) -> Turn
+fn take_item(
+    kinds: &[u8],
+    out: &mut [u8],
+    p: Progress,
+    next: usize,
+    said: Said,
+    mode: Stand,
+) -> Turn
     requires { ⌜ (p .count ≤ length (now out)) × Sounds (now kinds) said × Counts p said next ⌝ }
-    ensures { λ r. ⌜ Does (now (kinds .entry)) (now (out .entry)) p (Goes said mode next) (now (out .exit)) r ⌝ }
+    ensures { λ r. ⌜ Takes (now (kinds .entry)) (now (out .entry)) p next said mode (now (out .exit)) r ⌝ }
 {
     let k = times_said(said);
     match put_said(kinds, out, p.count, said) {
@@ -381,34 +158,42 @@ fn take_item(kinds: &[u8], out: &mut [u8], p: Progress, said: Said, mode: Mode, 
 }
 
 // One item, and its record.
-fn one_item(kinds: &[u8], big_endian: bool, s: &[u8], out: &mut [u8], p: Progress) -> Turn
+fn one_item(kinds: &[u8], how: How, s: &[u8], out: &mut [u8], p: Progress) -> Turn
     requires { ⌜ Ready (now kinds) (now s) p (now out) ⌝ }
-    ensures { λ r. ⌜ Does (now (kinds .entry)) (now (out .entry)) p (nextItem (withKinds (now (kinds .entry))) «big_endian» (now (s .entry)) (p .mode) (p .read)) (now (out .exit)) r ⌝ }
+    ensures { λ r.
+        let item = nextItem (now (kinds .entry)) how (now (s .entry)) (p .mode) (p .read) in
+        ⌜ Does (now (kinds .entry)) (now (out .entry)) p item (now (out .exit)) r ⌝ }
 {
     let mode = p.mode;
-    match next_item(kinds, big_endian, s, mode, p.read) {
-        Item::Goes(said, after, next) => take_item(kinds, out, p, said, after, next),
-        Item::Over(next) => Turn::Stops(Written::Done {
-            read: next,
+    let item = next_item(kinds, how, s, mode, p.read);
+    let said = item.said;
+    let then = item.then;
+    match said {
+        Said::Over => Turn::Stops(Written::Done {
+            read: item.at,
             count: p.count,
             steps: p.steps,
         }),
-        Item::Bad(number, place) => Turn::Stops(Written::Refused(number, place)),
+        Said::Bad(number) => Turn::Stops(Written::Refused(number, item.at)),
+        _ => take_item(kinds, out, p, item.at, said, then),
     }
 }
 
 // All items: the change records that they say, at the front of `out`.
 pub fn read_back(kinds: &[u8], big_endian: bool, s: &[u8], out: &mut [u8]) -> Written
-    ensures { λ r. ⌜ Fills (readBack (withKinds (now (kinds .entry))) «big_endian» (now (s .entry)) (length (now (out .entry)))) (now (out .entry)) (now (out .exit)) r ⌝ }
+    ensures { λ r. ⌜
+        Fills (readBack (withKinds (now (kinds .entry))) «big_endian» (now (s .entry)) (length (now (out .entry))))
+        (now (out .entry)) (now (out .exit)) r ⌝ }
 {
+    let how = How { big_endian };
     let mut p = Progress {
-        mode: Mode::Sections,
+        mode: standing(Phase::Mark, 0, 0),
         read: 0,
         count: 0,
         steps: 0,
     };
     loop {
-        match one_item(kinds, big_endian, s, out, p) {
+        match one_item(kinds, how, s, out, p) {
             Turn::More(q) => {
                 p = q;
             }

@@ -7,10 +7,13 @@ use Rattle.read_back.proofs.read_back.Statement.{statement}
 use Rattle.read_back.proofs.read_back.Tie as tie
 
 abbrev Inv-loop : tie.InvT-loop
-Inv-loop kinds big-endian s out₀ p₀ out p = OnKinds kinds big-endian s out₀ p out
+Inv-loop kinds big-endian s out₀ how p₀ out p = OnKinds kinds how s out₀ p out
 
 abbrev μ-loop : tie.MeasureT-loop
-μ-loop kinds big-endian s out₀ p₀ out p = left-over s p
+μ-loop kinds big-endian s out₀ how p₀ out p = left-over s p
+
+standing-requires : tie.Need-standing-requires Inv-loop μ-loop
+standing-requires c κs = search (loop-laws, needs)
 
 loop-holds : tie.Need-loop-holds Inv-loop μ-loop
 loop-holds c = search (loop-laws, needs)
@@ -42,6 +45,7 @@ read-back-spec =
     (tie.spec
     Inv-loop
     μ-loop
+    standing-requires
     loop-holds
     one-item-requires
     enum-known-q

@@ -2,7 +2,7 @@
 -- Assumes nothing.
 use mathlib.Core.Path.{_≡_, refl, sym, ap, subst, _∙_}
 use Prim.Native.Nat.{ℕ, zero, suc, _+_, _-_, _/_, _%_, _^_, _≤_, _<_}
-use mathlib.Core.Bool.{Bool, true, false, cond}
+use mathlib.Core.Bool.{Bool, true, false, cond, false≢true}
 use mathlib.Core.List.{List, [], _∷_}
 use native.Mathlib.Nat.{add-zero, div-add-mod'}
 use native.Mathlib.Omega.{arith}
@@ -23,25 +23,26 @@ use Rattle.written.specs.Little.{fixedBytes}
 use Rattle.states.specs.Letters.{ieee1164, crateOrder, placeOf}
 use Rattle.tables.specs.Lists.{nth}
 use Rattle.values.specs.Value.{mostOf, Suits}
-use Rattle.read_back.specs.declared.Mode.{Mode}
-use Rattle.read_back.specs.declared.Said.{Said}
-use Rattle.read_back.specs.declared.Said.the-variants.{Nothing, Time, Write, StepEnd}
-use Rattle.read_back.specs.declared.Item.{Item}
-use Rattle.read_back.specs.declared.Item.the-variants.{Goes, Over, Bad}
+use Rattle.section_heads.specs.declared.Stand.{Stand}
+use Rattle.section_heads.specs.declared.Said.{Said}
+use Rattle.section_heads.specs.declared.Said.the-variants.{Nothing, Time, Write, StepEnd, Over, Bad}
+use Rattle.section_heads.specs.declared.Item.{Item}
 use Rattle.read_back.specs.declared.Progress.{Progress}
 use Rattle.read_back.specs.declared.Turn.{Turn}
 use Rattle.read_back.specs.declared.Turn.the-variants.{More, Stops}
 use Rattle.written.specs.declared.Written.the-variants.{Done, Refused}
 use Rattle.read_back.specs.ReadBack.{unmapped, byteOf, writeOf}
-use Rattle.read_back.specs.Item.Code.{IdOf, Sound}
-use Rattle.read_back.specs.Item.Scans.{saidTimes}
+use Rattle.sections.specs.Item.Code.{IdOf}
+use Rattle.sections.specs.Item.Scans.{saidTimes, ends, Sound}
 
 -- the record of what is said, where it is something
 unfoldable pub saidBytes : List ℕ → Said → List ℕ
 saidBytes kinds Nothing = []
 saidBytes kinds (Time u) = 1 ∷ bigBytes 8 u
-saidBytes kinds (Write id v) = writeOf (nth kinds id) id v
+saidBytes kinds (Write v id) = writeOf (nth kinds id) id v
 saidBytes kinds StepEnd = 4 ∷ []
+saidBytes kinds Over = []
+saidBytes kinds (Bad n) = []
 
 -- ---- an id
 
@@ -161,17 +162,16 @@ pub ruleset write-laws = (fitting-small)
 pub record Sounds (kinds : List ℕ) (a : Said) : Type 0 where
   pub sound : Sound kinds a
 
-module _ (kinds : List ℕ) {a : Said} {out : List ℕ} {at : ℕ} where
-  pub said-nothing : a ≡ Nothing → at ≤ length out → Puts out at (saidBytes kinds a) out (Next at)
-  unfolding saidBytes
-  said-nothing e h = rw e (record { lies = (splice-nil out at, sym (add-zero at), h) })
+pub said-nothing : (kinds : List ℕ) (a : Said) (out : List ℕ) (at : ℕ) → saidBytes kinds a ≡ [] → at ≤ length out → Puts out at (saidBytes kinds a) out (Next at)
+said-nothing kinds a out at e h = rw e (record { lies = (splice-nil out at, sym (add-zero at), h) })
 
+module _ (kinds : List ℕ) {a : Said} {out : List ℕ} {at : ℕ} where
   module _ {out' : List ℕ} {f : Field} where
     pub said-time : {u : ℕ} → a ≡ Time u → Puts out at (1 ∷ bigBytes 8 u) out' f → Puts out at (saidBytes kinds a) out' f
     unfolding saidBytes
     said-time e q = rw e q
 
-    pub said-write : {id v : ℕ} → a ≡ Write id v → {k : ℕ} → k ≡ nth kinds id → Puts out at (writeOf k id v) out' f → Puts out at (saidBytes kinds a) out' f
+    pub said-write : {id v : ℕ} → a ≡ Write v id → {k : ℕ} → k ≡ nth kinds id → Puts out at (writeOf k id v) out' f → Puts out at (saidBytes kinds a) out' f
     unfolding saidBytes
     said-write e z q = rw e (rw z at q)
 
@@ -179,7 +179,7 @@ module _ (kinds : List ℕ) {a : Said} {out : List ℕ} {at : ℕ} where
     unfolding saidBytes
     said-end e x y = rw e (puts-one out at (4 ∷ []) x y)
 
-module _ {kinds : List ℕ} {a : Said} (w : Sounds kinds a) {id v : ℕ} (e : a ≡ Write id v) where
+module _ {kinds : List ℕ} {a : Said} (w : Sounds kinds a) {id v : ℕ} (e : a ≡ Write v id) where
   pub said-id : IdOf kinds id
   said-id = subst (Sound kinds) e (w .sound) .0
 
@@ -189,51 +189,56 @@ module _ {kinds : List ℕ} {a : Said} (w : Sounds kinds a) {id v : ℕ} (e : a 
 pub ruleset said-laws = (said-nothing, said-time, said-write, said-end, said-id, said-fits)
 
 module _ {a : Said} where
-  pub times-nothing : a ≡ Nothing → 0 ≡ saidTimes a
-  unfolding saidTimes
-  times-nothing e = rw e
-
   pub times-time : {u : ℕ} → a ≡ Time u → 1 ≡ saidTimes a
   unfolding saidTimes
   times-time e = rw e
 
-  pub times-write : {id v : ℕ} → a ≡ Write id v → 0 ≡ saidTimes a
-  unfolding saidTimes
-  times-write e = rw e
-
-  pub times-end : a ≡ StepEnd → 0 ≡ saidTimes a
-  unfolding saidTimes
-  times-end e = rw e
-
-pub ruleset times-laws = (times-nothing, times-time, times-write, times-end)
+pub ruleset times-laws = (times-time)
 
 -- ---- one item
 
 -- after the bytes of an item
-abbrev pub goneTo : Mode → (j steps : ℕ) → Field → Turn
+abbrev pub goneTo : Stand → (j steps : ℕ) → Field → Turn
 goneTo m j steps (Next c) = More (record { mode = m; read = j; count = c; steps = steps })
 goneTo m j steps Short = Stops (Refused 16 j)
 
-abbrev pub DoesBy : List ℕ → List ℕ → Progress → Item → List ℕ → Turn → Type 0
-DoesBy kinds out p (Goes a m j) out' r = (f : Field) × Puts out (p .count) (saidBytes kinds a) out' f × (r ≡ goneTo m j (p .steps + saidTimes a) f)
-DoesBy kinds out p (Over j) out' r = (out' ≡ out) × (r ≡ Stops (Done j (p .count) (p .steps)))
-DoesBy kinds out p (Bad n q) out' r = r ≡ Stops (Refused n q)
+-- what is said is put, or it does not fit
+pub record Takes (kinds out : List ℕ) (p : Progress) (j : ℕ) (a : Said) (m : Stand) (out' : List ℕ) (r : Turn) : Type 0 where
+  pub next : Field
+  pub puts : Puts out (p .count) (saidBytes kinds a) out' next
+  pub goes : r ≡ goneTo m j (p .steps + saidTimes a) next
+
+abbrev pub DoesBy : List ℕ → List ℕ → Progress → ℕ → Stand → Said → List ℕ → Turn → Type 0
+DoesBy kinds out p j m Nothing out' r = Takes kinds out p j Nothing m out' r
+DoesBy kinds out p j m (Time u) out' r = Takes kinds out p j (Time u) m out' r
+DoesBy kinds out p j m (Write v id) out' r = Takes kinds out p j (Write v id) m out' r
+DoesBy kinds out p j m StepEnd out' r = Takes kinds out p j StepEnd m out' r
+DoesBy kinds out p j m Over out' r = (out' ≡ out) × (r ≡ Stops (Done j (p .count) (p .steps)))
+DoesBy kinds out p j m (Bad n) out' r = r ≡ Stops (Refused n j)
 
 -- an item's record is put, or it does not fit; or the input is over, or refused
 pub record Does (kinds out : List ℕ) (p : Progress) (x : Item) (out' : List ℕ) (r : Turn) : Type 0 where
-  pub does : DoesBy kinds out p x out' r
+  pub does : DoesBy kinds out p (x .at) (x .then) (x .said) out' r
+
+pub does-take : {kinds out : List ℕ} {p : Progress} {j : ℕ} {m : Stand} {out' : List ℕ} {r : Turn} (a : Said) → ends a ≡ false → Takes kinds out p j a m out' r → DoesBy kinds out p j m a out' r
+does-take Nothing e f = f
+does-take (Time u) e f = f
+does-take (Write v id) e f = f
+does-take StepEnd e f = f
+does-take Over e f = absurd (false≢true (sym e))
+does-take (Bad n) e f = absurd (false≢true (sym e))
 
 -- the steps so far, and those of an item, are at most the bytes read
 pub record Counts (p : Progress) (a : Said) (j : ℕ) : Type 0 where
   pub few : p .steps + saidTimes a ≤ j
   pub more : p .steps ≤ j
 
-module _ (kinds out : List ℕ) (p : Progress) (a : Said) (m : Mode) (j : ℕ) {out' : List ℕ} {f : Field} (q : Puts out (p .count) (saidBytes kinds a) out' f) where
-  pub does-short : f ≡ Short → Does kinds out p (Goes a m j) out' (Stops (Refused 16 j))
-  does-short e = record { does = (f, q, rw e) }
+module _ (kinds out : List ℕ) (p : Progress) (a : Said) (m : Stand) (j : ℕ) {out' : List ℕ} {f : Field} (q : Puts out (p .count) (saidBytes kinds a) out' f) where
+  pub does-short : f ≡ Short → Takes kinds out p j a m out' (Stops (Refused 16 j))
+  does-short e = record { next = f; puts = q; goes = rw e }
 
-  pub does-more : {c : ℕ} → f ≡ Next c → {k : ℕ} → k ≡ saidTimes a → Does kinds out p (Goes a m j) out' (More (record { mode = m; read = j; count = c; steps = p .steps + k }))
-  does-more e z = record { does = (f, q, rw (e, z)) }
+  pub does-more : {c : ℕ} → f ≡ Next c → {k : ℕ} → k ≡ saidTimes a → Takes kinds out p j a m out' (More (record { mode = m; read = j; count = c; steps = p .steps + k }))
+  does-more e z = record { next = f; puts = q; goes = rw (e, z) }
 
 pub steps-fit : (p : Progress) (a : Said) (j : ℕ) → Counts p a j → {k : ℕ} → k ≡ saidTimes a → j < 2 ^ 64 → p .steps + k < 2 ^ 64
 steps-fit p a j w e h = omega (arith, w .few)

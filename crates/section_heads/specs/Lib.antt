@@ -1,0 +1,3 @@
+-- The definitions that the promises of `section_heads` cite.
+-- Assumes nothing.
+pub mod Heads

@@ -1,0 +1,250 @@
+// Section bytes between the values of steps, one item at a time: marks, heads, entries, deltas. Nothing of memory or vectors.
+use numbers::fixed::Positive;
+use numbers::fixed::read_i64;
+use numbers::fixed::read_u32;
+use numbers::marks::ECY;
+use numbers::marks::EOD;
+use numbers::marks::ESN;
+use numbers::marks::Section;
+use numbers::marks::is_mark;
+use numbers::marks::section_at;
+use slices::Field;
+use slices::field_at;
+use values::Read;
+use values::read_signed;
+ghost use mathlib.Core.Path.{_≡_};
+ghost use Rattle.section_parts.specs.Sections.{nextTime};
+ghost use Rattle.section_heads.specs.Heads.{standing, goes, passes, begins, stops, bad, timeOf};
+ghost use Rattle.section_heads.specs.Heads.{endItem, openSnapshot, openCycle, openDirectory, openTailer, opens, sectionItem};
+ghost use Rattle.section_heads.specs.Heads.{entryItem, timeItem, headItem};
+
+// How bytes are read.
+pub struct How {
+    pub big_endian: bool,
+}
+
+// The place after a delta and the next time of a cycle; or the place after the cycle's last delta; or a refusal's place and number.
+pub enum NextTime {
+    Time(usize, u64),
+    End(usize),
+    Bad(usize, u64),
+}
+
+pub enum Phase {
+    // At a section's mark.
+    Mark,
+    // In a directory, with `id` entries left.
+    Entries,
+    // Among the values of a snapshot, after `id`.
+    Each,
+    // At a snapshot's end mark.
+    Closing,
+    // In a change list, after `id`.
+    Listed,
+    // At a cycle's delta.
+    Between,
+}
+
+// Where a reading stands; in a step, at which time.
+pub struct Stand {
+    pub phase: Phase,
+    pub id: usize,
+    pub time: u64,
+}
+
+// What bytes say; the input's end; or a refusal's number.
+pub enum Said {
+    Nothing,
+    Time(u64),
+    Write { value: u64, id: usize },
+    StepEnd,
+    Over,
+    Bad(u64),
+}
+
+// What was found at a place: the place after it, or of a refusal, what it says, and where the reading stands then.
+pub struct Item {
+    pub at: usize,
+    pub said: Said,
+    pub then: Stand,
+}
+
+const ZEROS: [u8; 4] = [0, 0, 0, 0];
+
+pub fn standing(phase: Phase, id: usize, time: u64) -> Stand
+    ensures { λ r. ⌜ r ≡ standing phase id time ⌝ }
+{
+    Stand { phase, id, time }
+}
+
+pub fn goes(at: usize, said: Said, then: Stand) -> Item
+    ensures { λ r. ⌜ r ≡ goes at said then ⌝ }
+{
+    Item { at, said, then }
+}
+
+fn passes(at: usize, phase: Phase, id: usize) -> Item
+    ensures { λ r. ⌜ r ≡ passes at phase id ⌝ }
+{
+    goes(at, Said::Nothing, standing(phase, id, 0))
+}
+
+// A step begins.
+fn begins(at: usize, time: u64, phase: Phase) -> Item
+    ensures { λ r. ⌜ r ≡ begins at time phase ⌝ }
+{
+    goes(at, Said::Time(time), standing(phase, 0, time))
+}
+
+fn stops(at: usize, said: Said) -> Item
+    ensures { λ r. ⌜ r ≡ stops at said ⌝ }
+{
+    goes(at, said, standing(Phase::Mark, 0, 0))
+}
+
+pub fn bad(at: usize, number: u64) -> Item
+    ensures { λ r. ⌜ r ≡ bad number at ⌝ }
+{
+    stops(at, Said::Bad(number))
+}
+
+pub fn next_time(s: &[u8], u: u64, at: usize) -> NextTime
+    ensures { λ r. ⌜ r ≡ timeOf (nextTime (now (s .entry)) u at) ⌝ }
+{
+    match read_signed(s, at) {
+        Read::Value(d, next) => {
+            if 0x8000_0000_0000_0000 <= d {
+                return NextTime::End(next);
+            }
+            if d <= 0xffff_ffff_ffff_ffff - u {
+                NextTime::Time(next, u + d)
+            } else {
+                NextTime::Bad(at, 15)
+            }
+        }
+        Read::Bad(number, place) => NextTime::Bad(place, number),
+    }
+}
+
+fn end_item(s: &[u8], at: usize, mark: &[u8; 4]) -> Item
+    ensures { λ r. ⌜ r ≡ endItem (now (mark .entry)) (now (s .entry)) at ⌝ }
+{
+    match field_at(s, at, 4) {
+        Field::Next(next) => {
+            if is_mark(s, at, mark) {
+                return passes(next, Phase::Mark, 0);
+            }
+            bad(at, 10)
+        }
+        Field::Short => bad(at, 7),
+    }
+}
+
+fn open_snapshot(how: How, s: &[u8], at: usize) -> Item
+    ensures { λ r. ⌜ r ≡ openSnapshot how (now (s .entry)) at ⌝ }
+{
+    match field_at(s, at, 12) {
+        Field::Next(next) => {
+            if is_mark(s, at, &ZEROS) {
+                return begins(next, read_i64(how.big_endian, s, at + 4), Phase::Each);
+            }
+            bad(at, 9)
+        }
+        Field::Short => bad(at, 7),
+    }
+}
+
+fn open_cycle(how: How, s: &[u8], at: usize) -> Item
+    ensures { λ r. ⌜ r ≡ openCycle how (now (s .entry)) at ⌝ }
+{
+    match field_at(s, at, 8) {
+        Field::Next(next) => begins(next, read_i64(how.big_endian, s, at), Phase::Listed),
+        Field::Short => bad(at, 7),
+    }
+}
+
+fn open_directory(how: How, s: &[u8], at: usize) -> Item
+    ensures { λ r. ⌜ r ≡ openDirectory how (now (s .entry)) at ⌝ }
+{
+    match field_at(s, at, 8) {
+        Field::Next(next) => match read_u32(how.big_endian, s, at + 4) {
+            Positive::Number(n) => passes(next, Phase::Entries, n as usize),
+            Positive::Negative => bad(at + 4, 11),
+        },
+        Field::Short => bad(at, 7),
+    }
+}
+
+// The tailer's bytes of any content.
+fn open_tailer(s: &[u8], at: usize) -> Item
+    ensures { λ r. ⌜ r ≡ openTailer (now (s .entry)) at ⌝ }
+{
+    match field_at(s, at, 8) {
+        Field::Next(next) => stops(next, Said::Over),
+        Field::Short => bad(at, 7),
+    }
+}
+
+// What a section holds that its mark at `mark` opens.
+fn opened(how: How, s: &[u8], section: Section, mark: usize, at: usize) -> Item
+    ensures { λ r. ⌜ r ≡ opens how (now (s .entry)) section mark at ⌝ }
+{
+    match section {
+        Section::Snapshot => open_snapshot(how, s, at),
+        Section::Cycle => open_cycle(how, s, at),
+        Section::Directory => open_directory(how, s, at),
+        Section::Tailer => open_tailer(s, at),
+        Section::Unknown => bad(mark, 8),
+    }
+}
+
+fn section_item(how: How, s: &[u8], at: usize) -> Item
+    ensures { λ r. ⌜ r ≡ sectionItem how (now (s .entry)) at ⌝ }
+{
+    match field_at(s, at, 4) {
+        Field::Next(next) => opened(how, s, section_at(s, at), at, next),
+        Field::Short => bad(at, 7),
+    }
+}
+
+fn entry_item(how: How, s: &[u8], left: usize, at: usize) -> Item
+    ensures { λ r. ⌜ r ≡ entryItem how (now (s .entry)) left at ⌝ }
+{
+    if left == 0 {
+        return end_item(s, at, &EOD);
+    }
+    match field_at(s, at, 4) {
+        Field::Next(second) => match field_at(s, second, 4) {
+            Field::Next(next) => match read_u32(how.big_endian, s, second) {
+                Positive::Number(_) => passes(next, Phase::Entries, left - 1),
+                Positive::Negative => bad(second, 11),
+            },
+            Field::Short => bad(second, 7),
+        },
+        Field::Short => bad(at, 7),
+    }
+}
+
+// The time of the next step, or the cycle's end.
+fn time_item(s: &[u8], u: u64, at: usize) -> Item
+    ensures { λ r. ⌜ r ≡ timeItem (now (s .entry)) (timeOf (nextTime (now (s .entry)) u at)) ⌝ }
+{
+    match next_time(s, u, at) {
+        NextTime::Time(next, time) => begins(next, time, Phase::Listed),
+        NextTime::End(next) => end_item(s, next, &ECY),
+        NextTime::Bad(place, number) => bad(place, number),
+    }
+}
+
+// What stands at a place between the values of steps: a mark, a head, an entry, a delta.
+pub fn head_item(how: How, s: &[u8], x: Stand, at: usize) -> Item
+    ensures { λ r. ⌜ r ≡ headItem how (now (s .entry)) x at ⌝ }
+{
+    let phase = x.phase;
+    match phase {
+        Phase::Entries => entry_item(how, s, x.id, at),
+        Phase::Closing => end_item(s, at, &ESN),
+        Phase::Between => time_item(s, x.time, at),
+        _ => section_item(how, s, at),
+    }
+}

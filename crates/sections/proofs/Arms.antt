@@ -1,0 +1,46 @@
+-- The last arms of matches on a phase or on what is said, which name no variant: what they leave.
+-- Assumes nothing.
+use mathlib.Core.Path.{_≡_, refl}
+use mathlib.Core.Bool.{false}
+use mathlib.Core.List.{[], _∷_}
+use types.Run.{OneOf, miss}
+use denote.Enum.Declared.{tagOf}
+use Rattle.section_heads.proofs.Phase.{the-type}
+use Rattle.section_heads.proofs.Said as said
+use Rattle.section_heads.specs.declared.Said.{Said}
+use Rattle.section_heads.specs.declared.Said.the-variants.{Nothing, Time, Write, StepEnd, Over, Bad}
+use Rattle.section_heads.specs.declared.Phase.{Phase}
+use Rattle.section_heads.specs.declared.Phase.the-variants.{Mark, Entries, Each, Closing, Listed, Between}
+use Rattle.sections.specs.Item.{inValues, isEach}
+use Rattle.sections.specs.Item.Scans.{ends}
+use Rattle.sections.specs.Item.Code.{each-laws, after-each, after-other, of-other}
+
+pub other-each : (p : Phase) → OneOf (0 ∷ 1 ∷ 3 ∷ 4 ∷ 5 ∷ []) (tagOf the-type p) → isEach p ≡ false
+other-each Mark h = refl
+other-each Entries h = refl
+other-each Each h = absurd (miss (0 ∷ 1 ∷ 3 ∷ 4 ∷ 5 ∷ []) 2 tt h)
+other-each Closing h = refl
+other-each Listed h = refl
+other-each Between h = refl
+
+pub out-of-values : (p : Phase) → OneOf (0 ∷ 1 ∷ 3 ∷ 5 ∷ []) (tagOf the-type p) → false ≡ inValues p
+out-of-values Mark h = refl
+out-of-values Entries h = refl
+out-of-values Each h = absurd (miss (0 ∷ 1 ∷ 3 ∷ 5 ∷ []) 2 tt h)
+out-of-values Closing h = refl
+out-of-values Listed h = absurd (miss (0 ∷ 1 ∷ 3 ∷ 5 ∷ []) 4 tt h)
+out-of-values Between h = refl
+
+pub other-ends : (a : Said) → OneOf (0 ∷ 1 ∷ 2 ∷ 3 ∷ []) (tagOf said.the-type a) → ends a ≡ false
+other-ends Nothing h = refl
+other-ends (Time u) h = refl
+other-ends (Write v id) h = refl
+other-ends StepEnd h = refl
+other-ends Over h = absurd (miss (0 ∷ 1 ∷ 2 ∷ 3 ∷ []) 4 tt h)
+other-ends (Bad n) h = absurd (miss (0 ∷ 1 ∷ 2 ∷ 3 ∷ []) 5 tt h)
+
+pub ruleset after-laws = (other-each, after-each, after-other)
+
+pub ruleset in-values-laws = (out-of-values)
+
+pub ruleset next-laws = (other-each, each-laws, of-other)

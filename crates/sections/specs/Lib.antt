@@ -1,0 +1,3 @@
+-- The definitions that the promises of `sections` cite.
+-- Assumes nothing.
+pub mod Item

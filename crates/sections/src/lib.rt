@@ -1,0 +1,133 @@
+// Section bytes, one item at a time: what section reading, reading back and explaining share. Nothing of memory or vectors.
+use section_heads::How;
+use section_heads::Item;
+use section_heads::Phase;
+use section_heads::Said;
+use section_heads::Stand;
+use section_heads::bad;
+use section_heads::goes;
+use section_heads::head_item;
+use section_heads::standing;
+use values::Read;
+use values::read_unsigned;
+use values::read_value;
+ghost use mathlib.Core.Path.{_≡_};
+ghost use Prim.Native.Nat.{_≤_};
+ghost use lib.ListN.{length};
+ghost use Rattle.tables.specs.Lists.{nth};
+ghost use Rattle.sections.specs.Item.{inValues, afterValues, idIn, nextOf, writeItem, valueItem, nextItem};
+ghost use Rattle.sections.specs.Item.Code.{IdOf, Stands};
+
+// The next id of a change list and the place after its delta, id 0 where the list ends; or a refusal.
+pub fn next_id(kinds: &[u8], s: &[u8], id: usize, at: usize) -> Read
+    requires { ⌜ id ≤ length (now kinds) ⌝ }
+    ensures { λ r. ⌜ r ≡ idIn (now (kinds .entry)) (now (s .entry)) id at ⌝ }
+{
+    match read_unsigned(s, at) {
+        Read::Value(d, next) => {
+            if d == 0 {
+                return Read::Value(0, next);
+            }
+            if d as usize <= kinds.len() - id {
+                Read::Value(id as u64 + d, next)
+            } else {
+                Read::Bad(13, at)
+            }
+        }
+        Read::Bad(number, place) => Read::Bad(number, place),
+    }
+}
+
+pub fn signal_kind(kinds: &[u8], id: usize) -> u8
+    requires { ⌜ IdOf (now kinds) id ⌝ }
+    ensures { λ r. ⌜ r ≡ nth (now (kinds .entry)) id ⌝ }
+{
+    kinds[id - 1]
+}
+
+// The next id, of a snapshot or of a change list.
+fn next_of(phase: Phase, kinds: &[u8], s: &[u8], id: usize, at: usize) -> Read
+    requires { ⌜ id ≤ length (now kinds) ⌝ }
+    ensures { λ r. ⌜ r ≡ nextOf (now (kinds .entry)) (now (s .entry)) phase id at ⌝ }
+{
+    match phase {
+        Phase::Each => {
+            if id < kinds.len() {
+                Read::Value(id as u64 + 1, at)
+            } else {
+                Read::Value(0, at)
+            }
+        }
+        _ => next_id(kinds, s, id, at),
+    }
+}
+
+// Where a reading stands after the values of a step.
+pub fn after_values(phase: Phase) -> Phase
+    ensures { λ r. ⌜ r ≡ afterValues phase ⌝ }
+{
+    match phase {
+        Phase::Each => Phase::Closing,
+        _ => Phase::Between,
+    }
+}
+
+// The value of an id.
+fn write_item(kinds: &[u8], s: &[u8], x: Stand, id: usize, at: usize) -> Item
+    requires { ⌜ IdOf (now kinds) id ⌝ }
+    ensures { λ r. ⌜ r ≡ writeItem (now (kinds .entry)) (now (s .entry)) x id at ⌝ }
+{
+    let phase = x.phase;
+    match read_value(signal_kind(kinds, id), s, at) {
+        Read::Value(value, end) => goes(
+            end,
+            Said::Write { value, id },
+            standing(phase, id, x.time),
+        ),
+        Read::Bad(number, place) => bad(place, number),
+    }
+}
+
+// The value of the next id, or the step's end.
+pub fn value_item(kinds: &[u8], s: &[u8], x: Stand, at: usize) -> Item
+    requires { ⌜ x .id ≤ length (now kinds) ⌝ }
+    ensures { λ r. ⌜ r ≡ valueItem (now (kinds .entry)) (now (s .entry)) x at ⌝ }
+{
+    let phase = x.phase;
+    match next_of(phase, kinds, s, x.id, at) {
+        Read::Value(found, next) => {
+            if found == 0 {
+                return goes(
+                    next,
+                    Said::StepEnd,
+                    standing(after_values(phase), 0, x.time),
+                );
+            }
+            write_item(kinds, s, x, found as usize, next)
+        }
+        Read::Bad(number, place) => bad(place, number),
+    }
+}
+
+// Whether a reading stands among the values of a step.
+pub fn in_values(phase: Phase) -> bool
+    ensures { λ r. ⌜ r ≡ inValues phase ⌝ }
+{
+    match phase {
+        Phase::Each => true,
+        Phase::Listed => true,
+        _ => false,
+    }
+}
+
+// What stands at a place.
+pub fn next_item(kinds: &[u8], how: How, s: &[u8], x: Stand, at: usize) -> Item
+    requires { ⌜ Stands (now kinds) x ⌝ }
+    ensures { λ r. ⌜ r ≡ nextItem (now (kinds .entry)) how (now (s .entry)) x at ⌝ }
+{
+    let phase = x.phase;
+    if in_values(phase) {
+        return value_item(kinds, s, x, at);
+    }
+    head_item(how, s, x, at)
+}
