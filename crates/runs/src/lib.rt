@@ -79,7 +79,7 @@ fn store_down(room: &mut [u8], info: VecBufferInfo, left: usize, d: usize, value
 }
 
 // The change at `at`, where it is a short one and makes no event. Answers its delta, or 0.
-fn take_change(
+pub fn take_change(
     kind: States,
     s: &[u8],
     room: &mut [u8],

@@ -1,0 +1,34 @@
+-- `along::near` meets its contract: each need follows from `near-laws`. Assumes nothing.
+use Rattle.along.specs.Follows.Code.{near-laws}
+use borrow.Author.Needs.{needs}
+use Rattle.along.proofs.near.Statement.{statement}
+use Rattle.along.proofs.near.Tie as tie
+
+returns : tie.Need-returns
+returns c = search (near-laws, needs)
+
+shared-slice-read-if2 : tie.Need-shared-slice-read-if2
+shared-slice-read-if2 c = search (near-laws, needs)
+
+returns-2 : tie.Need-returns-2
+returns-2 c = search (near-laws, needs)
+
+shared-slice-read-wide : tie.Need-shared-slice-read-wide
+shared-slice-read-wide c = search (near-laws, needs)
+
+wide-requires : tie.Need-wide-requires
+wide-requires c κs = search (near-laws, needs)
+
+returns-3 : tie.Need-returns-3
+returns-3 c = search (near-laws, needs)
+
+pub near-spec : {M : Type 1} → statement M
+near-spec =
+    tie.close
+    (tie.spec
+    returns
+    shared-slice-read-if2
+    returns-2
+    shared-slice-read-wide
+    wide-requires
+    returns-3)
