@@ -21,7 +21,7 @@ rm -rf "$made" "$made.tar.gz"
 mkdir -p "$made/lib" "$made/bin"
 
 # What is committed: the crate, the command's source, the file for wellen; the header; the pages that they name; the samples.
-git -C "$root" archive HEAD NOTICE include docs/REFUSALS.md docs/DIFFERENCES.md rust ':!rust/*.sh' ':!rust/*/tests/*' | tar -x -C "$made"
+git -C "$root" archive HEAD LICENSE NOTICE include docs/REFUSALS.md docs/DIFFERENCES.md rust ':!rust/*.sh' ':!rust/*/tests/*' | tar -x -C "$made"
 mv "$made/rust/samples" "$made/samples"
 
 # The command, without a library of the system.
