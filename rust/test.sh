@@ -16,6 +16,9 @@ for name in doorquill bench; do
     [ -f "$DOORQUILL_LIB/lib$name.a" ] || left_out "no archive lib$name.a in $DOORQUILL_LIB"
 done
 
+# A small design is simulated anew, for names and values beside GHDL's own VCD, where GHDL is at hand or can be had; else its recorded run is used alone.
+command -v ghdl > /dev/null || offered ghdl-llvm || echo "host: no ghdl: the recorded run of the small design is used alone"
+
 cd "$here" || exit 1
 cargo test -q --workspace --all-targets "$@" || exit 1
 # Examples in the documentation: cargo passes over them where the target is not the machine's own, unless it is told that an emulator is there, by a flag

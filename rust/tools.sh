@@ -8,6 +8,7 @@
 #   across       what makes cargo run documentation tests under an emulator, where there is one
 #   archives     makes the proved archives where `rt` is at hand, and sets DOORQUILL_LIB to their folder
 #   left_out ..  ends the script with a message and status 0
+#   offered ..   installs packages that are of use and not needed, where they can be had
 log=$out/install.log
 
 left_out() {
@@ -30,6 +31,12 @@ install() {
     DEBIAN_FRONTEND=noninteractive apt-get update > "$log" 2>&1
     DEBIAN_FRONTEND=noninteractive apt-get install -y --no-install-recommends "$@" >> "$log" 2>&1 ||
         left_out "these packages can't be installed (see $log): $*"
+}
+
+# offered PACKAGE..: installs what is of use and not needed, where that can be had
+offered() {
+    [ "$(id -u)" -eq 0 ] && command -v apt-get > /dev/null || return 1
+    DEBIAN_FRONTEND=noninteractive apt-get install -y --no-install-recommends "$@" >> "$log" 2>&1
 }
 
 command -v dpkg-query > /dev/null || left_out "a machine without Debian's packages"
