@@ -1,4 +1,4 @@
--- Section bytes between the values of steps: where a reading stands, and what it finds there.
+-- Where a reading of sections stands, and what it finds there outside steps.
 -- Assumes nothing.
 use Prim.Native.Nat.{ℕ, zero, suc, _+_}
 use mathlib.Core.Bool.{cond}
@@ -9,19 +9,14 @@ use Rattle.slices.specs.Field.{fieldOf}
 use Rattle.slices.specs.declared.Field.{Field}
 use Rattle.slices.specs.declared.Field.the-variants as field
 use Rattle.numbers.specs.Fixed.{fixed, positive}
-use Rattle.numbers.specs.Marks.{same, ecy, eod, esn, sectionOf}
+use Rattle.numbers.specs.Marks.{same, eod, sectionOf}
 use Rattle.numbers.specs.declared.fixed.Positive.{Positive}
 use Rattle.numbers.specs.declared.fixed.Positive.the-variants as sign
 use Rattle.numbers.specs.declared.marks.Section.{Section}
 use Rattle.numbers.specs.declared.marks.Section.the-variants as section
-use Rattle.section_parts.specs.Sections.{nextTime}
-use Rattle.section_parts.specs.declared.NextTime as scanned
-use Rattle.section_parts.specs.declared.NextTime.the-variants as times
 use Rattle.section_heads.specs.declared.How.{How}
-use Rattle.section_heads.specs.declared.NextTime.{NextTime}
-use Rattle.section_heads.specs.declared.NextTime.the-variants as next
 use Rattle.section_heads.specs.declared.Phase.{Phase}
-use Rattle.section_heads.specs.declared.Phase.the-variants.{Mark, Entries, Each, Closing, Listed, Between}
+use Rattle.section_heads.specs.declared.Phase.the-variants.{Mark, Entries, Each, Listed}
 use Rattle.section_heads.specs.declared.Stand.{Stand}
 use Rattle.section_heads.specs.declared.Said.{Said}
 use Rattle.section_heads.specs.declared.Said.the-variants.{Nothing, Time, Over, Bad}
@@ -65,7 +60,7 @@ unfoldable pub counted : Positive → ℕ → (ℕ → Item) → Item
 counted (sign.Number n) i k = k n
 counted sign.Negative i k = bad 11 i
 
--- ---- between the values of steps
+-- ---- outside steps
 
 -- "Tailer: 8 more bytes of any content; the tailer ends the reading"
 unfoldable pub openTailer : (s : List ℕ) → ℕ → Item
@@ -103,25 +98,3 @@ module _ (how : How) (s : List ℕ) where
   unfoldable pub entryItem : (left i : ℕ) → Item
   entryItem zero i = endItem eod s i
   entryItem (suc left) i = within (fieldOf 4 s i) (λ j. within (fieldOf 4 s j) (λ k. counted (positive (fixedAt j 4)) j (λ n. passes k Entries left)) j) i
-
--- a delta: another step, or the cycle's end; the place first
-unfoldable pub timeOf : scanned.NextTime → NextTime
-timeOf (times.Time u j) = next.Time j u
-timeOf (times.End j) = next.End j
-timeOf (times.Bad n p) = next.Bad p n
-
-unfoldable pub timeItem : List ℕ → NextTime → Item
-timeItem s (next.Time j u) = begins j u Listed
-timeItem s (next.End j) = endItem ecy s j
-timeItem s (next.Bad p n) = bad n p
-
-unfoldable pub headOf : How → List ℕ → Phase → (id u i : ℕ) → Item
-headOf how s Mark id u i = sectionItem how s i
-headOf how s Entries left u i = entryItem how s left i
-headOf how s Each id u i = sectionItem how s i
-headOf how s Closing id u i = endItem esn s i
-headOf how s Listed id u i = sectionItem how s i
-headOf how s Between id u i = timeItem s (timeOf (nextTime s u i))
-
-unfoldable pub headItem : How → List ℕ → Stand → ℕ → Item
-headItem how s x i = headOf how s (x .phase) (x .id) (x .time) i

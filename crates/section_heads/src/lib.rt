@@ -1,33 +1,21 @@
-// Section bytes between the values of steps, one item at a time: marks, heads, entries, deltas. Nothing of memory or vectors.
+// Where a reading of sections stands, what it finds, and its items outside steps: marks, heads, entries. Nothing of memory or vectors.
 use numbers::fixed::Positive;
 use numbers::fixed::read_i64;
 use numbers::fixed::read_u32;
-use numbers::marks::ECY;
 use numbers::marks::EOD;
-use numbers::marks::ESN;
 use numbers::marks::Section;
 use numbers::marks::is_mark;
 use numbers::marks::section_at;
 use slices::Field;
 use slices::field_at;
-use values::Read;
-use values::read_signed;
 ghost use mathlib.Core.Path.{_≡_};
-ghost use Rattle.section_parts.specs.Sections.{nextTime};
-ghost use Rattle.section_heads.specs.Heads.{standing, goes, passes, begins, stops, bad, timeOf};
+ghost use Rattle.section_heads.specs.Heads.{standing, goes, passes, begins, stops, bad};
 ghost use Rattle.section_heads.specs.Heads.{endItem, openSnapshot, openCycle, openDirectory, openTailer, opens, sectionItem};
-ghost use Rattle.section_heads.specs.Heads.{entryItem, timeItem, headItem};
+ghost use Rattle.section_heads.specs.Heads.{entryItem};
 
 // How bytes are read.
 pub struct How {
     pub big_endian: bool,
-}
-
-// The place after a delta and the next time of a cycle; or the place after the cycle's last delta; or a refusal's place and number.
-pub enum NextTime {
-    Time(usize, u64),
-    End(usize),
-    Bad(usize, u64),
 }
 
 pub enum Phase {
@@ -90,7 +78,7 @@ fn passes(at: usize, phase: Phase, id: usize) -> Item
 }
 
 // A step begins.
-fn begins(at: usize, time: u64, phase: Phase) -> Item
+pub fn begins(at: usize, time: u64, phase: Phase) -> Item
     ensures { λ r. ⌜ r ≡ begins at time phase ⌝ }
 {
     goes(at, Said::Time(time), standing(phase, 0, time))
@@ -108,25 +96,7 @@ pub fn bad(at: usize, number: u64) -> Item
     stops(at, Said::Bad(number))
 }
 
-pub fn next_time(s: &[u8], u: u64, at: usize) -> NextTime
-    ensures { λ r. ⌜ r ≡ timeOf (nextTime (now (s .entry)) u at) ⌝ }
-{
-    match read_signed(s, at) {
-        Read::Value(d, next) => {
-            if 0x8000_0000_0000_0000 <= d {
-                return NextTime::End(next);
-            }
-            if d <= 0xffff_ffff_ffff_ffff - u {
-                NextTime::Time(next, u + d)
-            } else {
-                NextTime::Bad(at, 15)
-            }
-        }
-        Read::Bad(number, place) => NextTime::Bad(place, number),
-    }
-}
-
-fn end_item(s: &[u8], at: usize, mark: &[u8; 4]) -> Item
+pub fn end_item(s: &[u8], at: usize, mark: &[u8; 4]) -> Item
     ensures { λ r. ⌜ r ≡ endItem (now (mark .entry)) (now (s .entry)) at ⌝ }
 {
     match field_at(s, at, 4) {
@@ -198,7 +168,7 @@ fn opened(how: How, s: &[u8], section: Section, mark: usize, at: usize) -> Item
     }
 }
 
-fn section_item(how: How, s: &[u8], at: usize) -> Item
+pub fn section_item(how: How, s: &[u8], at: usize) -> Item
     ensures { λ r. ⌜ r ≡ sectionItem how (now (s .entry)) at ⌝ }
 {
     match field_at(s, at, 4) {
@@ -207,7 +177,7 @@ fn section_item(how: How, s: &[u8], at: usize) -> Item
     }
 }
 
-fn entry_item(how: How, s: &[u8], left: usize, at: usize) -> Item
+pub fn entry_item(how: How, s: &[u8], left: usize, at: usize) -> Item
     ensures { λ r. ⌜ r ≡ entryItem how (now (s .entry)) left at ⌝ }
 {
     if left == 0 {
@@ -222,29 +192,5 @@ fn entry_item(how: How, s: &[u8], left: usize, at: usize) -> Item
             Field::Short => bad(second, 7),
         },
         Field::Short => bad(at, 7),
-    }
-}
-
-// The time of the next step, or the cycle's end.
-fn time_item(s: &[u8], u: u64, at: usize) -> Item
-    ensures { λ r. ⌜ r ≡ timeItem (now (s .entry)) (timeOf (nextTime (now (s .entry)) u at)) ⌝ }
-{
-    match next_time(s, u, at) {
-        NextTime::Time(next, time) => begins(next, time, Phase::Listed),
-        NextTime::End(next) => end_item(s, next, &ECY),
-        NextTime::Bad(place, number) => bad(place, number),
-    }
-}
-
-// What stands at a place between the values of steps: a mark, a head, an entry, a delta.
-pub fn head_item(how: How, s: &[u8], x: Stand, at: usize) -> Item
-    ensures { λ r. ⌜ r ≡ headItem how (now (s .entry)) x at ⌝ }
-{
-    let phase = x.phase;
-    match phase {
-        Phase::Entries => entry_item(how, s, x.id, at),
-        Phase::Closing => end_item(s, at, &ESN),
-        Phase::Between => time_item(s, x.time, at),
-        _ => section_item(how, s, at),
     }
 }

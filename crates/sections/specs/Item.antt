@@ -1,4 +1,4 @@
--- Section bytes one item at a time: the values of a step, and any item.
+-- Section bytes one item at a time: between the values of steps, the values of a step, and any item.
 -- Assumes nothing.
 use Prim.Native.Nat.{ℕ, _+_}
 use mathlib.Core.Bool.{Bool, true, false, cond}
@@ -10,7 +10,12 @@ use Rattle.values.specs.declared.Read.{Read}
 use Rattle.values.specs.declared.Read.the-variants as read
 use Rattle.values.specs.Value.{onRead, value}
 use Rattle.section_parts.specs.Parts.{withKinds}
-use Rattle.section_parts.specs.Sections.{nextId}
+use Rattle.section_parts.specs.Sections.{nextId, nextTime}
+use Rattle.section_parts.specs.declared.NextTime as scanned
+use Rattle.section_parts.specs.declared.NextTime.the-variants as times
+use Rattle.sections.specs.declared.NextTime.{NextTime}
+use Rattle.sections.specs.declared.NextTime.the-variants as next
+use Rattle.numbers.specs.Marks.{ecy, esn}
 use Rattle.section_parts.specs.declared.NextId.{NextId}
 use Rattle.section_parts.specs.declared.NextId.the-variants as ids
 use Rattle.section_heads.specs.declared.How.{How}
@@ -19,9 +24,33 @@ use Rattle.section_heads.specs.declared.Phase.the-variants.{Mark, Entries, Each
 use Rattle.section_heads.specs.declared.Stand.{Stand}
 use Rattle.section_heads.specs.declared.Said.the-variants.{Write, StepEnd}
 use Rattle.section_heads.specs.declared.Item.{Item}
-use Rattle.section_heads.specs.Heads.{standing, goes, bad, headItem}
+use Rattle.section_heads.specs.Heads.{standing, goes, begins, bad, endItem, sectionItem, entryItem}
 pub mod Code
 pub mod Scans
+
+-- ---- between the values of steps
+
+-- a delta: another step, or the cycle's end; the place first
+unfoldable pub timeOf : scanned.NextTime → NextTime
+timeOf (times.Time u j) = next.Time j u
+timeOf (times.End j) = next.End j
+timeOf (times.Bad n p) = next.Bad p n
+
+unfoldable pub timeItem : List ℕ → NextTime → Item
+timeItem s (next.Time j u) = begins j u Listed
+timeItem s (next.End j) = endItem ecy s j
+timeItem s (next.Bad p n) = bad n p
+
+unfoldable pub headOf : How → List ℕ → Phase → (id u i : ℕ) → Item
+headOf how s Mark id u i = sectionItem how s i
+headOf how s Entries left u i = entryItem how s left i
+headOf how s Each id u i = sectionItem how s i
+headOf how s Closing id u i = endItem esn s i
+headOf how s Listed id u i = sectionItem how s i
+headOf how s Between id u i = timeItem s (timeOf (nextTime s u i))
+
+unfoldable pub headItem : How → List ℕ → Stand → ℕ → Item
+headItem how s x i = headOf how s (x .phase) (x .id) (x .time) i
 
 -- ---- the values of a step
 

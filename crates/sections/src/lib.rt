@@ -1,22 +1,37 @@
 // Section bytes, one item at a time: what section reading, reading back and explaining share. Nothing of memory or vectors.
+use numbers::marks::ECY;
+use numbers::marks::ESN;
 use section_heads::How;
 use section_heads::Item;
 use section_heads::Phase;
 use section_heads::Said;
 use section_heads::Stand;
 use section_heads::bad;
+use section_heads::begins;
+use section_heads::end_item;
+use section_heads::entry_item;
 use section_heads::goes;
-use section_heads::head_item;
+use section_heads::section_item;
 use section_heads::standing;
 use values::Read;
+use values::read_signed;
 use values::read_unsigned;
 use values::read_value;
 ghost use mathlib.Core.Path.{_≡_};
 ghost use Prim.Native.Nat.{_≤_};
 ghost use lib.ListN.{length};
 ghost use Rattle.tables.specs.Lists.{nth};
+ghost use Rattle.section_parts.specs.Sections.{nextTime};
 ghost use Rattle.sections.specs.Item.{inValues, afterValues, idIn, nextOf, writeItem, valueItem, nextItem};
+ghost use Rattle.sections.specs.Item.{timeOf, timeItem, headItem};
 ghost use Rattle.sections.specs.Item.Code.{IdOf, Stands};
+
+// The place after a delta and the next time of a cycle; or the place after the cycle's last delta; or a refusal's place and number.
+pub enum NextTime {
+    Time(usize, u64),
+    End(usize),
+    Bad(usize, u64),
+}
 
 // The next id of a change list and the place after its delta, id 0 where the list ends; or a refusal.
 pub fn next_id(kinds: &[u8], s: &[u8], id: usize, at: usize) -> Read
@@ -35,6 +50,24 @@ pub fn next_id(kinds: &[u8], s: &[u8], id: usize, at: usize) -> Read
             }
         }
         Read::Bad(number, place) => Read::Bad(number, place),
+    }
+}
+
+pub fn next_time(s: &[u8], u: u64, at: usize) -> NextTime
+    ensures { λ r. ⌜ r ≡ timeOf (nextTime (now (s .entry)) u at) ⌝ }
+{
+    match read_signed(s, at) {
+        Read::Value(d, next) => {
+            if 0x8000_0000_0000_0000 <= d {
+                return NextTime::End(next);
+            }
+            if d <= 0xffff_ffff_ffff_ffff - u {
+                NextTime::Time(next, u + d)
+            } else {
+                NextTime::Bad(at, 15)
+            }
+        }
+        Read::Bad(number, place) => NextTime::Bad(place, number),
     }
 }
 
@@ -106,6 +139,30 @@ pub fn value_item(kinds: &[u8], s: &[u8], x: Stand, at: usize) -> Item
             write_item(kinds, s, x, found as usize, next)
         }
         Read::Bad(number, place) => bad(place, number),
+    }
+}
+
+// The time of the next step, or the cycle's end.
+fn time_item(s: &[u8], u: u64, at: usize) -> Item
+    ensures { λ r. ⌜ r ≡ timeItem (now (s .entry)) (timeOf (nextTime (now (s .entry)) u at)) ⌝ }
+{
+    match next_time(s, u, at) {
+        NextTime::Time(next, time) => begins(next, time, Phase::Listed),
+        NextTime::End(next) => end_item(s, next, &ECY),
+        NextTime::Bad(place, number) => bad(place, number),
+    }
+}
+
+// What stands at a place between the values of steps: a mark, a head, an entry, a delta.
+pub fn head_item(how: How, s: &[u8], x: Stand, at: usize) -> Item
+    ensures { λ r. ⌜ r ≡ headItem how (now (s .entry)) x at ⌝ }
+{
+    let phase = x.phase;
+    match phase {
+        Phase::Entries => entry_item(how, s, x.id, at),
+        Phase::Closing => end_item(s, at, &ESN),
+        Phase::Between => time_item(s, x.time, at),
+        _ => section_item(how, s, at),
     }
 }
 

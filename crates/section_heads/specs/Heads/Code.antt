@@ -13,26 +13,19 @@ use Rattle.slices.specs.Field.{fieldOf, field-next}
 use Rattle.slices.specs.declared.Field.{Field}
 use Rattle.slices.specs.declared.Field.the-variants as field
 use Rattle.numbers.specs.Fixed.{positive}
-use Rattle.numbers.specs.Marks.{same, ecy, eod, esn, sectionOf}
+use Rattle.numbers.specs.Marks.{same, eod, sectionOf}
 use Rattle.numbers.specs.declared.fixed.Positive.{Positive}
 use Rattle.numbers.specs.declared.fixed.Positive.the-variants as sign
 use Rattle.numbers.specs.declared.marks.Section.{Section}
 use Rattle.numbers.specs.declared.marks.Section.the-variants as section
-use Rattle.values.specs.declared.Read.{Read}
-use Rattle.values.specs.declared.Read.the-variants as read
-use Rattle.values.specs.Value.{signed}
-use Rattle.section_parts.specs.Sections.{nextTime}
-use Rattle.section_parts.specs.Sections.Deltas.{time-bad, time-end, time-found, time-past}
 use Rattle.section_heads.specs.declared.How.{How}
-use Rattle.section_heads.specs.declared.NextTime.{NextTime}
-use Rattle.section_heads.specs.declared.NextTime.the-variants as next
 use Rattle.section_heads.specs.declared.Phase.{Phase}
-use Rattle.section_heads.specs.declared.Phase.the-variants.{Mark, Entries, Each, Closing, Listed, Between}
+use Rattle.section_heads.specs.declared.Phase.the-variants.{Mark, Entries, Each, Listed}
 use Rattle.section_heads.specs.declared.Stand.{Stand}
 use Rattle.section_heads.specs.declared.Said.{Said}
 use Rattle.section_heads.specs.declared.Said.the-variants.{Over}
 use Rattle.section_heads.specs.declared.Item.{Item}
-use Rattle.section_heads.specs.Heads.{standing, goes, passes, begins, stops, bad, within, endItem, counted, fixedAt, openTailer, openSnapshot, openCycle, openDirectory, opens, sectionItem, entryItem, timeOf, timeItem, headOf, headItem}
+use Rattle.section_heads.specs.Heads.{standing, goes, passes, begins, stops, bad, within, endItem, counted, fixedAt, openTailer, openSnapshot, openCycle, openDirectory, opens, sectionItem, entryItem}
 
 -- ---- an item is made
 
@@ -211,58 +204,3 @@ module _ (how : How) (s : List ℕ) where
             passed = rw (sym e ∙ d, sym h ∙ z, sym q ∙ t)
 
 pub ruleset entry-laws = (four-inside, entry-none, entry-short, entry-second, entry-wrong, entry-passed)
-
--- ---- a delta
-
-module _ (s : List ℕ) (u i : ℕ) {r : Read} (e : r ≡ signed s i) where
-  pub to-bad : {n p : ℕ} → r ≡ read.Bad n p → next.Bad p n ≡ timeOf (nextTime s u i)
-  unfolding timeOf
-  to-bad b = ap timeOf (time-bad s u i e b)
-
-  module _ {d j : ℕ} (v : r ≡ read.Value d j) where
-    pub to-end : 0x8000_0000_0000_0000 ≤ d → next.End j ≡ timeOf (nextTime s u i)
-    unfolding timeOf
-    to-end h = ap timeOf (time-end s u i e v h)
-
-    module _ (h : d < 0x8000_0000_0000_0000) (k : u < 2 ^ 64) where
-      pub to-found : d ≤ 0xffff_ffff_ffff_ffff - u → next.Time j (u + d) ≡ timeOf (nextTime s u i)
-      unfolding timeOf
-      to-found l = ap timeOf (time-found s u i e v h k l)
-
-      pub to-past : 0xffff_ffff_ffff_ffff - u < d → next.Bad i 15 ≡ timeOf (nextTime s u i)
-      unfolding timeOf
-      to-past l = ap timeOf (time-past s u i e v h k l)
-
-pub ruleset to-laws = (to-bad, to-end, to-found, to-past)
-
-module _ (s : List ℕ) {d : NextTime} {c : NextTime} (e : c ≡ d) {r : Item} where
-  pub delta-time : {j u : ℕ} → c ≡ next.Time j u → r ≡ begins j u Listed → r ≡ timeItem s d
-  unfolding timeItem
-  delta-time g w = w ∙ rw (sym e ∙ g)
-
-  pub delta-end : {j : ℕ} → c ≡ next.End j → r ≡ endItem ecy s j → r ≡ timeItem s d
-  unfolding timeItem
-  delta-end g w = w ∙ rw (sym e ∙ g)
-
-  pub delta-bad : {p n : ℕ} → c ≡ next.Bad p n → r ≡ bad n p → r ≡ timeItem s d
-  unfolding timeItem
-  delta-bad g w = w ∙ rw (sym e ∙ g)
-
-pub ruleset delta-laws = (delta-time, delta-end, delta-bad)
-
--- ---- between the values of steps
-
-module _ (how : How) (s : List ℕ) (x : Stand) (i : ℕ) {r : Item} where
-  pub head-entry : x .phase ≡ Entries → r ≡ entryItem how s (x .id) i → r ≡ headItem how s x i
-  unfolding headItem headOf
-  head-entry d e = rw d e
-
-  pub head-closing : x .phase ≡ Closing → r ≡ endItem esn s i → r ≡ headItem how s x i
-  unfolding headItem headOf
-  head-closing d e = rw d e
-
-  pub head-delta : x .phase ≡ Between → r ≡ timeItem s (timeOf (nextTime s (x .time) i)) → r ≡ headItem how s x i
-  unfolding headItem headOf
-  head-delta d e = rw d e
-
-pub ruleset head-laws = (head-entry, head-closing, head-delta)

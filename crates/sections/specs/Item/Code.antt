@@ -1,7 +1,7 @@
 -- What the proofs of the readers of items search.
 -- Assumes nothing.
 use mathlib.Core.Path.{_≡_, refl, sym, ap, subst, _∙_}
-use Prim.Native.Nat.{ℕ, zero, suc, _+_, _-_, _≤_, _<_}
+use Prim.Native.Nat.{ℕ, zero, suc, _+_, _-_, _≤_, _<_, _^_}
 use mathlib.Core.Bool.{Bool, true, false}
 use mathlib.Core.List.{List}
 use native.Mathlib.Omega.{arith}
@@ -11,21 +11,24 @@ use lib.Dec.{ltb}
 use Rattle.slices.specs.Choice.{cond-ind}
 use Rattle.tables.specs.Lists.{nth}
 use Rattle.values.specs.declared.Read.{Read}
-use Rattle.values.specs.declared.Read.the-variants as read
-use Rattle.values.specs.Value.{onRead, unsigned, value}
+use Rattle.values.specs.Value.{onRead, unsigned, value, signed}
 use Rattle.section_parts.specs.Parts.{withKinds}
-use Rattle.section_parts.specs.Sections.{nextId}
-use Rattle.section_parts.specs.Sections.Deltas.{IdAhead, id-ahead, id-bad, id-end, id-found, id-past}
+use Rattle.section_parts.specs.Sections.{nextId, nextTime}
+use Rattle.section_parts.specs.Sections.Deltas.{IdAhead, id-ahead, id-bad, id-end, id-found, id-past, time-bad, time-end, time-found, time-past}
 use Rattle.section_parts.specs.declared.NextId.{NextId}
-use Rattle.section_parts.specs.declared.NextId.the-variants as ids
 use Rattle.section_heads.specs.declared.How.{How}
 use Rattle.section_heads.specs.declared.Phase.{Phase}
-use Rattle.section_heads.specs.declared.Phase.the-variants.{Each, Closing, Between}
+use Rattle.section_heads.specs.declared.Phase.the-variants.{Each, Closing, Between, Entries, Listed}
 use Rattle.section_heads.specs.declared.Stand.{Stand}
 use Rattle.section_heads.specs.declared.Said.the-variants.{Write, StepEnd}
 use Rattle.section_heads.specs.declared.Item.{Item}
-use Rattle.section_heads.specs.Heads.{standing, goes, bad, headItem}
-use Rattle.sections.specs.Item.{inValues, isEach, afterValues, idOf, idIn, eachId, nextOf, writeItem, foundItem, valueItem, nextItem}
+use Rattle.numbers.specs.Marks.{ecy, esn}
+use Rattle.sections.specs.declared.NextTime.{NextTime}
+use Rattle.values.specs.declared.Read.the-variants as read
+use Rattle.section_parts.specs.declared.NextId.the-variants as ids
+use Rattle.sections.specs.declared.NextTime.the-variants as next
+use Rattle.section_heads.specs.Heads.{standing, goes, begins, bad, endItem, entryItem}
+use Rattle.sections.specs.Item.{timeOf, timeItem, headOf, headItem, inValues, isEach, afterValues, idOf, idIn, eachId, nextOf, writeItem, foundItem, valueItem, nextItem}
 
 -- ---- an id
 
@@ -143,6 +146,61 @@ module _ (kinds s : List ℕ) (x : Stand) (i : ℕ) {c : Read} (e : c ≡ nextOf
     value-bad d w = w ∙ rw (sym e ∙ d)
 
 pub ruleset value-laws = (value-id, value-end, value-found, value-bad)
+
+-- ---- a delta
+
+module _ (s : List ℕ) (u i : ℕ) {r : Read} (e : r ≡ signed s i) where
+  pub to-bad : {n p : ℕ} → r ≡ read.Bad n p → next.Bad p n ≡ timeOf (nextTime s u i)
+  unfolding timeOf
+  to-bad b = ap timeOf (time-bad s u i e b)
+
+  module _ {d j : ℕ} (v : r ≡ read.Value d j) where
+    pub to-end : 0x8000_0000_0000_0000 ≤ d → next.End j ≡ timeOf (nextTime s u i)
+    unfolding timeOf
+    to-end h = ap timeOf (time-end s u i e v h)
+
+    module _ (h : d < 0x8000_0000_0000_0000) (k : u < 2 ^ 64) where
+      pub to-found : d ≤ 0xffff_ffff_ffff_ffff - u → next.Time j (u + d) ≡ timeOf (nextTime s u i)
+      unfolding timeOf
+      to-found l = ap timeOf (time-found s u i e v h k l)
+
+      pub to-past : 0xffff_ffff_ffff_ffff - u < d → next.Bad i 15 ≡ timeOf (nextTime s u i)
+      unfolding timeOf
+      to-past l = ap timeOf (time-past s u i e v h k l)
+
+pub ruleset to-laws = (to-bad, to-end, to-found, to-past)
+
+module _ (s : List ℕ) {d : NextTime} {c : NextTime} (e : c ≡ d) {r : Item} where
+  pub delta-time : {j u : ℕ} → c ≡ next.Time j u → r ≡ begins j u Listed → r ≡ timeItem s d
+  unfolding timeItem
+  delta-time g w = w ∙ rw (sym e ∙ g)
+
+  pub delta-end : {j : ℕ} → c ≡ next.End j → r ≡ endItem ecy s j → r ≡ timeItem s d
+  unfolding timeItem
+  delta-end g w = w ∙ rw (sym e ∙ g)
+
+  pub delta-bad : {p n : ℕ} → c ≡ next.Bad p n → r ≡ bad n p → r ≡ timeItem s d
+  unfolding timeItem
+  delta-bad g w = w ∙ rw (sym e ∙ g)
+
+pub ruleset delta-laws = (delta-time, delta-end, delta-bad)
+
+-- ---- between the values of steps
+
+module _ (how : How) (s : List ℕ) (x : Stand) (i : ℕ) {r : Item} where
+  pub head-entry : x .phase ≡ Entries → r ≡ entryItem how s (x .id) i → r ≡ headItem how s x i
+  unfolding headItem headOf
+  head-entry d e = rw d e
+
+  pub head-closing : x .phase ≡ Closing → r ≡ endItem esn s i → r ≡ headItem how s x i
+  unfolding headItem headOf
+  head-closing d e = rw d e
+
+  pub head-delta : x .phase ≡ Between → r ≡ timeItem s (timeOf (nextTime s (x .time) i)) → r ≡ headItem how s x i
+  unfolding headItem headOf
+  head-delta d e = rw d e
+
+pub ruleset head-laws = (head-entry, head-closing, head-delta)
 
 -- ---- any item
 

@@ -38,8 +38,8 @@ use Rattle.section_heads.specs.declared.Said.{Said}
 use Rattle.section_heads.specs.declared.Said.the-variants.{Nothing, Time, Write, StepEnd, Over, Bad}
 use Rattle.section_heads.specs.declared.Item.{Item}
 use Rattle.sections.specs.Item.Code.{IdOf, Stood}
-use Rattle.section_heads.specs.Heads.{standing, goes, passes, begins, bad, within, endItem, counted, fixedAt, openTailer, openSnapshot, openCycle, openDirectory, opens, sectionItem, entryItem, timeOf, timeItem, headOf, headItem}
-use Rattle.sections.specs.Item.{afterValues, idOf, idIn, eachId, nextOf, writeItem, foundItem, valueItem, nextItem}
+use Rattle.section_heads.specs.Heads.{standing, goes, passes, begins, bad, within, endItem, counted, fixedAt, openTailer, openSnapshot, openCycle, openDirectory, opens, sectionItem, entryItem}
+use Rattle.sections.specs.Item.{timeOf, timeItem, headOf, headItem, afterValues, idOf, idIn, eachId, nextOf, writeItem, foundItem, valueItem, nextItem}
 
 -- what is said before the rest
 unfoldable pub sayOf : Said → (p j : ℕ) → Scan → Scan

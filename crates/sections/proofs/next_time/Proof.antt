@@ -1,8 +1,8 @@
--- `section_heads::next_time` meets its contract: each need follows from `to-laws`. Assumes nothing.
-use Rattle.section_heads.specs.Heads.Code.{to-laws}
+-- `sections::next_time` meets its contract: each need follows from `to-laws`. Assumes nothing.
+use Rattle.sections.specs.Item.Code.{to-laws}
 use borrow.Author.Needs.{needs}
-use Rattle.section_heads.proofs.next_time.Statement.{statement}
-use Rattle.section_heads.proofs.next_time.Tie as tie
+use Rattle.sections.proofs.next_time.Statement.{statement}
+use Rattle.sections.proofs.next_time.Tie as tie
 
 read-signed-requires : tie.Need-read-signed-requires
 read-signed-requires c κs = search (to-laws, needs)

@@ -1,8 +1,8 @@
--- `section_heads::head_item` meets its contract: each need follows from `place-laws`. Assumes nothing.
-use Rattle.section_heads.proofs.Arms.{place-laws}
+-- `sections::head_item` meets its contract: each need follows from `place-laws`. Assumes nothing.
+use Rattle.sections.proofs.Arms.{place-laws}
 use borrow.Author.Needs.{needs}
-use Rattle.section_heads.proofs.head_item.Statement.{statement}
-use Rattle.section_heads.proofs.head_item.Tie as tie
+use Rattle.sections.proofs.head_item.Statement.{statement}
+use Rattle.sections.proofs.head_item.Tie as tie
 
 enum-told : tie.Need-enum-told
 enum-told c = search (place-laws, needs)

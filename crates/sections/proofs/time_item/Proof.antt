@@ -1,8 +1,8 @@
--- `section_heads::time_item` meets its contract: each need follows from `delta-laws`. Assumes nothing.
-use Rattle.section_heads.specs.Heads.Code.{delta-laws}
+-- `sections::time_item` meets its contract: each need follows from `delta-laws`. Assumes nothing.
+use Rattle.sections.specs.Item.Code.{delta-laws}
 use borrow.Author.Needs.{needs}
-use Rattle.section_heads.proofs.time_item.Statement.{statement}
-use Rattle.section_heads.proofs.time_item.Tie as tie
+use Rattle.sections.proofs.time_item.Statement.{statement}
+use Rattle.sections.proofs.time_item.Tie as tie
 
 next-time-requires : tie.Need-next-time-requires
 next-time-requires c κs = search (delta-laws, needs)
