@@ -14,13 +14,15 @@ use section_heads::goes;
 use section_heads::section_item;
 use section_heads::standing;
 use values::Read;
+use values::read_narrow;
+use values::read_real;
 use values::read_signed;
 use values::read_unsigned;
-use values::read_value;
 ghost use mathlib.Core.Path.{_≡_};
 ghost use Prim.Native.Nat.{_≤_};
 ghost use lib.ListN.{length};
 ghost use Rattle.tables.specs.Lists.{nth};
+ghost use Rattle.values.specs.Value.{value};
 ghost use Rattle.section_parts.specs.Sections.{nextTime};
 ghost use Rattle.sections.specs.Item.{inValues, afterValues, idIn, nextOf, writeItem, valueItem, nextItem};
 ghost use Rattle.sections.specs.Item.{timeOf, timeItem, headItem};
@@ -105,13 +107,26 @@ pub fn after_values(phase: Phase) -> Phase
     }
 }
 
+// The value of a kind. Not `values::read_value`: section reading calls that once, and so its loop takes it in.
+fn value_at(kind: u8, s: &[u8], at: usize) -> Read
+    ensures { λ r. ⌜ r ≡ value kind (now (s .entry)) at ⌝ }
+{
+    if kind <= 4 {
+        return read_narrow(kind, s, at);
+    }
+    if kind == 5 {
+        return read_signed(s, at);
+    }
+    read_real(s, at)
+}
+
 // The value of an id.
 fn write_item(kinds: &[u8], s: &[u8], x: Stand, id: usize, at: usize) -> Item
     requires { ⌜ IdOf (now kinds) id ⌝ }
     ensures { λ r. ⌜ r ≡ writeItem (now (kinds .entry)) (now (s .entry)) x id at ⌝ }
 {
     let phase = x.phase;
-    match read_value(signal_kind(kinds, id), s, at) {
+    match value_at(signal_kind(kinds, id), s, at) {
         Read::Value(value, end) => goes(
             end,
             Said::Write { value, id },

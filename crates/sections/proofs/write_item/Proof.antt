@@ -7,8 +7,8 @@ use Rattle.sections.proofs.write_item.Tie as tie
 signal-kind-requires : tie.Need-signal-kind-requires
 signal-kind-requires c κs = search (write-laws, needs)
 
-read-value-requires : tie.Need-read-value-requires
-read-value-requires c κs = search (write-laws, needs)
+value-at-requires : tie.Need-value-at-requires
+value-at-requires c κs = search (write-laws, needs)
 
 enum-known-value : tie.Need-enum-known-value
 enum-known-value c = search (write-laws, needs)
@@ -36,7 +36,7 @@ write-item-spec =
     tie.close
     (tie.spec
     signal-kind-requires
-    read-value-requires
+    value-at-requires
     enum-known-value
     standing-requires
     goes-requires
