@@ -1,0 +1,3 @@
+-- The definitions that the promises of `vector_turns` cite.
+-- Assumes nothing.
+pub mod OneVector
