@@ -10,7 +10,6 @@ use Rattle.tables.specs.declared.Check.{Check}
 use Rattle.tables.specs.declared.Check.the-variants.{Passed, Refused}
 pub mod Laws
 pub mod Loops
-pub mod Examples
 
 -- a check whose place is 0
 unfoldable pub unless : Bool → ℕ → Check
