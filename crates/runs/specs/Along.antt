@@ -116,11 +116,11 @@ module _ {t : Lists} (k : Tabled t) (v id : ℕ) (known : v < length (t .mins)) 
   names = k .named .names v (id - 1) known (rw up above) (rw up below)
 
   -- its kind is that of the vector's state: its values are read so, and suit it
-  record OfState (st : States) : Type 0 where
-    reads : (s : List ℕ) (i : ℕ) {r : Read} → r ≡ byteUpTo (bitMost st) (bitMap st) s i → r ≡ value (nth (t .kinds) id) s i
-    suits : (b : ℕ) → b ≤ bitMost st → Suits (nth (t .kinds) id) (bitMap st b)
+  pub record OfState (st : States) : Type 0 where
+    pub reads : (s : List ℕ) (i : ℕ) {r : Read} → r ≡ byteUpTo (bitMost st) (bitMap st) s i → r ≡ value (nth (t .kinds) id) s i
+    pub suits : (b : ℕ) → b ≤ bitMost st → Suits (nth (t .kinds) id) (bitMap st b)
 
-  of-state : OfState state
+  pub of-state : OfState state
   unfolding mostOf
   of-state = go (ℕ-discrete (getD (t .kinds) (id - 1) 0) 1) (ℕ-discrete (getD (t .kinds) (id - 1) 0) 3)
     where
