@@ -22,7 +22,7 @@ use Rattle.fragments.specs.Theorems.{Accounts, Why, Closes, Good, benches, Ever
 use Rattle.fragments.specs.Theorems.Proofs.{accounts, reads, closes, good-always}
 use Rattle.answers.specs.Outcome.{Outcome, accepted, refused, answer, eventBytes, valueBytes, LeftKept, leavesKept}
 use Rattle.answers.specs.Outcome.Laws.{Allowed, padded-front, answer-events, answer-values, allowed-values, acceptance-is, refusal-is}
-use Rattle.doorquill.specs.Demands.{Answers, Output, answers-of, events-of}
+use Rattle.entries.specs.Demands.{Answers, Output, answers-of, events-of}
 use Rattle.answers.specs.Filled.{filled}
 use Rattle.bench.specs.Bench.{limitsOf, apart, named, benched, bench}
 

@@ -11,13 +11,12 @@ use Rattle.tables.specs.declared.Check.{Check}
 use Rattle.tables.specs.declared.Check.the-variants.{Passed, Refused}
 use Rattle.doorquill.specs.declared.Vector.{Vector}
 use Rattle.answers.specs.Outcome.{refused, Left, Lent, leaves}
-use Rattle.doorquill.specs.Entries.{readSections}
+use Rattle.entries.specs.Entries.{readSections}
 pub mod Flat
 pub mod Laws
 pub mod Entry
 pub mod Unique
 pub mod Demands
-pub mod Rows
 
 -- "The host lends the vector table as a run of records": "each has min id, max id, state (0 nine, 1 two) and reference"
 unfoldable pub tableOf : List Vector → (kinds refs vecs : List ℕ) → Lists

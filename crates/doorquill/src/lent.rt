@@ -16,7 +16,7 @@ ghost use Prim.Native.Nat.{_+_, _*_, _%_, _≤_};
 ghost use lib.ListN.{length, replicate};
 ghost use Rattle.slices.specs.Splice.{splice, part};
 ghost use Rattle.tables.specs.Lists.{lists};
-ghost use Rattle.doorquill.specs.Entries.{readSections};
+ghost use Rattle.entries.specs.Entries.{readSections};
 ghost use Rattle.reading_ends.specs.Reading.{leftOf, lentOf};
 ghost use Rattle.doorquill.specs.Lent.Flat.{roomFor, Unpacked, lows, flatTable, checkFlat, checksFlat, readPassed, refusedLent, readFlat, leftLent};
 

@@ -22,11 +22,11 @@ ghost use mathlib.Core.Path.{_≡_};
 ghost use lib.ListN.{length};
 ghost use Rattle.tables.specs.Lists.{lists};
 ghost use Rattle.answers.specs.Outcome.{LeftKept};
-ghost use Rattle.doorquill.specs.Entries.{readSections, readChanges, applyTimeRule};
+ghost use Rattle.entries.specs.Entries.{readSections, readChanges, applyTimeRule};
 ghost use Rattle.reading_ends.specs.Reading.{leftOf, lentOf};
 ghost use Rattle.doorquill.specs.Lent.Flat.{leftLent};
 ghost use Rattle.doorquill.specs.Lent.{readSectionsLent};
-ghost use Rattle.doorquill.specs.Written.{writeSections, readBack};
+ghost use Rattle.entries.specs.Written.{writeSections, readBack};
 
 // A vector's record, as a host lends it.
 #[repr(C)]

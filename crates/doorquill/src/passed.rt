@@ -19,7 +19,7 @@ ghost use Rattle.gather.specs.Begin.{roomsOf};
 ghost use Rattle.section_parts.specs.Sections.{scanSections};
 ghost use Rattle.changes.specs.Changes.{scanChanges};
 ghost use Rattle.answers.specs.Outcome.{leaves};
-ghost use Rattle.doorquill.specs.Entries.{outcome};
+ghost use Rattle.entries.specs.Entries.{outcome};
 ghost use Rattle.reading_ends.specs.Reading.{leftOf, lentOf, Ended};
 
 // The acts of all sections, over tables that passed their checks.

@@ -8,7 +8,7 @@ use lib.Dec.{leb, eqb}
 use Rattle.tables.specs.Lists.{Lists}
 use Rattle.answers.specs.declared.Answer.{Answer}
 use Rattle.answers.specs.Outcome.{Lent}
-use Rattle.doorquill.specs.Entries.{readSections}
+use Rattle.entries.specs.Entries.{readSections}
 use Rattle.lines.specs.Lines.{doneWord, refusedWord, pairLine, eventLines}
 use Rattle.preamble.specs.Preamble.{Opening, opens, refused, preamble}
 pub mod Code

@@ -6,7 +6,7 @@ use mathlib.Core.List.{List, [], _∷_, _++_}
 use borrow.Author.Tests.{lt-leb}
 use lib.ListN.{length}
 use Rattle.numbers.specs.Fixed.{bigBytes}
-use Rattle.doorquill.specs.Rows.Opened.{opened}
+use Rattle.entries.specs.Opened.{opened}
 use Rattle.plain_text.specs.Text as text
 use Rattle.lines.specs.Lines as lines
 use Rattle.lines.specs.Lines.{refusedWord, doneWord, realWord, timeLine, hexLine, pairLine}

@@ -29,12 +29,12 @@ use Rattle.read_back.specs.ReadBack as back
 use Rattle.reread.specs.Reread.Refused.{Comes, Own, writes-as, Full, gives-as}
 use Rattle.reread.specs.Reread.Stream.{read-back}
 use Rattle.answers.specs.Outcome.{Outcome, accepted, refused, answer, eventBytes, Lent, LeftKept, leavesKept}
-use Rattle.doorquill.specs.Entries.{checked, readSections, readChanges}
+use Rattle.entries.specs.Entries.{checked, readSections, readChanges}
 use Rattle.answers.specs.Outcome.Laws.{Allowed, padded-front, answer-events, answer-values, allowed-values, acceptance-is, refusal-is}
-use Rattle.doorquill.specs.Entries.Scanned.{Scanned, sections-scanned, changes-scanned}
-use Rattle.doorquill.specs.Demands.{Answers, Output, answers-of, events-of}
+use Rattle.entries.specs.Entries.Scanned.{Scanned, sections-scanned, changes-scanned}
+use Rattle.entries.specs.Demands.{Answers, Output, answers-of, events-of}
 use Rattle.answers.specs.Filled.{filled}
-use Rattle.doorquill.specs.Written.{writeSections, readBack}
+use Rattle.entries.specs.Written.{writeSections, readBack}
 use Rattle.written_read.specs.Entry.{Alike, same-left}
 
 -- the bytes that an answer reports

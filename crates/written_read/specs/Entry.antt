@@ -20,7 +20,7 @@ use Rattle.sections_writer.specs.Writer.{writeSections}
 use Rattle.reread.specs.Reread.{bareWent}
 use Rattle.reread.specs.Reread.Events.{same-events}
 use Rattle.answers.specs.Outcome.{Outcome, accepted, refused, Lent, Left, answer, eventBytes, valueBytes, padded, leaves}
-use Rattle.doorquill.specs.Entries.{checked, outcome, reads, readSections, readChanges}
+use Rattle.entries.specs.Entries.{checked, outcome, reads, readSections, readChanges}
 
 -- an outcome, the bytes read and the place of a refusal aside
 unfoldable pub bareOutcome : Outcome → Outcome

@@ -1,6 +1,6 @@
 -- `doorquill::doorquill_read_back` meets its contract: each need follows from `entry-laws`, `filled-laws`. Assumes nothing.
 use Rattle.answers.specs.Filled.{filled-laws}
-use Rattle.doorquill.specs.Written.Laws.{entry-laws}
+use Rattle.entries.specs.Written.Laws.{entry-laws}
 use borrow.Author.Needs.{needs}
 use Rattle.doorquill.proofs.doorquill_read_back.Statement.{statement}
 use Rattle.doorquill.proofs.doorquill_read_back.Tie as tie

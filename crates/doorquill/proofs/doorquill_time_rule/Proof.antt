@@ -1,5 +1,5 @@
 -- `doorquill::doorquill_time_rule` meets its contract: each need follows from `rule-laws`. Assumes nothing.
-use Rattle.doorquill.specs.Kept.{rule-laws}
+use Rattle.entries.specs.Kept.{rule-laws}
 use borrow.Author.Needs.{needs}
 use Rattle.doorquill.proofs.doorquill_time_rule.Statement.{statement}
 use Rattle.doorquill.proofs.doorquill_time_rule.Tie as tie

@@ -1,6 +1,6 @@
 -- `doorquill::doorquill_write_sections` meets its contract: each need follows from `entry-laws`, `filled-laws`. Assumes nothing.
 use Rattle.answers.specs.Filled.{filled-laws}
-use Rattle.doorquill.specs.Written.Laws.{entry-laws}
+use Rattle.entries.specs.Written.Laws.{entry-laws}
 use borrow.Author.Needs.{needs}
 use Rattle.doorquill.proofs.doorquill_write_sections.Statement.{statement}
 use Rattle.doorquill.proofs.doorquill_write_sections.Tie as tie

@@ -17,9 +17,9 @@ use Rattle.gather.specs.Run.{gathers, acts}
 use Rattle.section_parts.specs.Sections.{scanSections}
 use Rattle.doorquill.specs.declared.Vector.{Vector}
 use Rattle.answers.specs.Outcome.{Outcome, refused, answer, eventBytes, valueBytes, padded, Lent, leaves}
-use Rattle.doorquill.specs.Entries.{checked, reads, readSections}
+use Rattle.entries.specs.Entries.{checked, reads, readSections}
 use Rattle.answers.specs.Outcome.Laws.{padded-length, padded-past, padded-nothing, refusal-rest}
-use Rattle.doorquill.specs.Demands.{Answers, Output, Demand1, Demand2, sections-1, sections-2, sections-3}
+use Rattle.entries.specs.Demands.{Answers, Output, Demand1, Demand2, sections-1, sections-2, sections-3}
 use Rattle.doorquill.specs.Lent.{tableOf, LeftLent, checksLent, leftBy, readSectionsLent}
 use Rattle.doorquill.specs.Lent.Entry.{vectors-table}
 

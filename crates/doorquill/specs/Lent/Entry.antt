@@ -20,7 +20,7 @@ use Rattle.tables.specs.declared.Check.{Check}
 use Rattle.tables.specs.declared.Check.the-variants.{Passed, Refused}
 use Rattle.doorquill.specs.declared.Vector.{Vector}
 use Rattle.answers.specs.Outcome.{Lent}
-use Rattle.doorquill.specs.Entries.{readSections}
+use Rattle.entries.specs.Entries.{readSections}
 use Rattle.doorquill.specs.Lent.{LeftLent, tableOf, checksLent, leftBy, readSectionsLent}
 use Rattle.doorquill.specs.Lent.Flat.{none, roomFor, placed, upto, Unpacked, lows, flatTable, checkFlat, checksFlat, readPassed, refusedLent, readBy, readFlat}
 use Rattle.doorquill.specs.Lent.Laws.{room-is, flat-few, flat-room}

@@ -14,7 +14,7 @@ use Rattle.tables.specs.declared.Check.the-variants.{Passed, Refused}
 use Rattle.doorquill.specs.declared.Vector.{Vector}
 use Rattle.answers.specs.declared.Answer.{Answer}
 use Rattle.answers.specs.Outcome.{refused, Lent, leaves}
-use Rattle.doorquill.specs.Entries.{readSections}
+use Rattle.entries.specs.Entries.{readSections}
 use Rattle.doorquill.specs.Lent.{LeftLent}
 
 -- what stands past the last record

@@ -10,7 +10,7 @@ use lib.ListN.{length, take, drop, length-drop}
 use lib.Seq.{length-take-le, take-all}
 use Rattle.tables.specs.Lists.{Lists}
 use Rattle.answers.specs.declared.Answer.{Answer}
-use Rattle.doorquill.specs.Entries.{readSections}
+use Rattle.entries.specs.Entries.{readSections}
 use Rattle.reading_ends.specs.Reading.{leftOf, lentOf}
 use Rattle.preamble.specs.declared.Opened.{Opened}
 use Rattle.preamble.specs.declared.Opened.the-variants as opened

@@ -28,9 +28,9 @@ use Rattle.records.specs.Stream.Laws.{Stands, found-event}
 use Rattle.gather.specs.Run.Rendered.{rendered, valuesOf}
 use Rattle.section_parts.specs.Sections.{scanSections}
 use Rattle.answers.specs.Outcome.{Left}
-use Rattle.doorquill.specs.Entries.{readSections}
-use Rattle.doorquill.specs.Entries.Reads.{eventsFrom}
-use Rattle.doorquill.specs.Demands.{sections-1, sections-2}
+use Rattle.entries.specs.Entries.{readSections}
+use Rattle.entries.specs.Entries.Reads.{eventsFrom}
+use Rattle.entries.specs.Demands.{sections-1, sections-2}
 use Rattle.plain_text.specs.Text.{decimalOf, decimal, hex, Holds, Prints}
 use Rattle.plain_text.specs.Text.Laws.{holds-all, holds-fits, holds-front}
 use Rattle.lines.specs.Lines.{realWord, doneWord, refusedWord, timeLine, hexLine, pairLine, stateWord, eventLine, oneLine, linesFrom, eventLines}

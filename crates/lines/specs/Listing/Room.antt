@@ -22,10 +22,10 @@ use Rattle.tables.specs.Checks.{unless, lowest, andThen, check1, check2, check3
 use Rattle.tables.specs.declared.Check.{Check}
 use Rattle.tables.specs.declared.Check.the-variants as checking
 use Rattle.section_parts.specs.Sections.{scanSections}
-use Rattle.doorquill.specs.Entries.{readSections}
-use Rattle.doorquill.specs.Entries.Reads.{Why}
-use Rattle.doorquill.specs.Entries.Scanned.{sections-scanned}
-use Rattle.doorquill.specs.Demands.{sections-2}
+use Rattle.entries.specs.Entries.{readSections}
+use Rattle.entries.specs.Entries.Reads.{Why}
+use Rattle.entries.specs.Entries.Scanned.{sections-scanned}
+use Rattle.entries.specs.Demands.{sections-2}
 use Rattle.preamble.specs.declared.Item.{Item}
 use Rattle.preamble.specs.declared.Item.the-variants.{Signal, Vector, Sections, Refused}
 use Rattle.preamble.specs.Preamble.{itemAt, Opening, opens, refused, oneItem, opening, preamble}

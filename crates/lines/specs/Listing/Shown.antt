@@ -25,9 +25,9 @@ use Rattle.records.specs.Stream.Laws.{past-end}
 use Rattle.gather.specs.Run.Rendered.{rendered, valuesOf}
 use Rattle.section_parts.specs.Sections.{scanSections}
 use Rattle.answers.specs.Outcome.{Left}
-use Rattle.doorquill.specs.Entries.{readSections}
-use Rattle.doorquill.specs.Entries.Reads.{eventsFrom}
-use Rattle.doorquill.specs.Demands.{sections-1, sections-2}
+use Rattle.entries.specs.Entries.{readSections}
+use Rattle.entries.specs.Entries.Reads.{eventsFrom}
+use Rattle.entries.specs.Demands.{sections-1, sections-2}
 use Rattle.lines.specs.Lines.{realWord, doneWord, timeLine, hexLine, pairLine, stateWord, eventLine, oneLine, linesFrom, eventLines}
 use Rattle.lines.specs.Listing.{told, lends, sectionLines}
 

@@ -1,5 +1,5 @@
 -- `doorquill::passed::sections_part` meets its contract: what was lent to the reader is the beginning's, and what comes back is the end's. Assumes nothing.
-use Rattle.doorquill.specs.Begin.{from-laws, lend-bytes, lend-numbers, lent-bytes, lent-numbers, start-asks, run-ended}
+use Rattle.entries.specs.Begin.{from-laws, lend-bytes, lend-numbers, lent-bytes, lent-numbers, start-asks, run-ended}
 use borrow.Author.Needs.{needs}
 use Rattle.doorquill.proofs.passed.sections_part.Statement.{statement}
 use Rattle.doorquill.proofs.passed.sections_part.Tie as tie

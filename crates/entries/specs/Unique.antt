@@ -6,7 +6,7 @@ use mathlib.Core.Bool.{Bool}
 use mathlib.Core.List.{List}
 use Rattle.tables.specs.Lists.{Lists}
 use Rattle.answers.specs.Outcome.{Left, Lent, LeftKept}
-use Rattle.doorquill.specs.Entries.{readSections, readChanges, applyTimeRule}
+use Rattle.entries.specs.Entries.{readSections, readChanges, applyTimeRule}
 
 -- "Prove that two outcomes satisfying it are equal"
 pub sections-unique : (t : Lists) (flag : Bool) (s : List ℕ) (l : Lent) (a b : Left) → a ≡ readSections t flag s l → b ≡ readSections t flag s l → a ≡ b

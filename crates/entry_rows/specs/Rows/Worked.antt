@@ -16,9 +16,9 @@ use Rattle.gather.specs.Run.{say, done, fault}
 use Rattle.section_parts.specs.Sections.{scanSections}
 use Rattle.changes.specs.Changes.{scanChanges}
 use Rattle.answers.specs.Outcome.{Left, Lent}
-use Rattle.doorquill.specs.Entries.{readSections}
-use Rattle.doorquill.specs.Rows.{Refuses, Fully, left, lent, ample, nineState, small, changes}
-use Rattle.doorquill.specs.Rows.Opened.{opened}
+use Rattle.entries.specs.Entries.{readSections}
+use Rattle.entry_rows.specs.Rows.{Refuses, Fully, left, lent, ample, nineState, small, changes}
+use Rattle.entries.specs.Opened.{opened}
 
 -- "SNP, 12 zero bytes, `03 01 00 2A`, ESN; CYC, time 10, `03 01 00 05 01 04 00 7F`, ECY; TAI and 8 zeros"
 abbrev input : List ℕ

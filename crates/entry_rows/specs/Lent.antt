@@ -6,12 +6,12 @@ use mathlib.Core.Bool.{false}
 use mathlib.Core.List.{List, [], _∷_}
 use lib.ListN.{replicate}
 use Rattle.numbers.specs.Fixed.{bigBytes}
 use Rattle.doorquill.specs.declared.Vector.{Vector}
 use Rattle.answers.specs.Outcome.{Lent}
-use Rattle.doorquill.specs.Entries.{readSections}
-use Rattle.doorquill.specs.Rows.{Refuses, left, lent, small}
-use Rattle.doorquill.specs.Rows.Opened.{opened}
+use Rattle.entries.specs.Entries.{readSections}
+use Rattle.entry_rows.specs.Rows.{Refuses, left, lent, small}
+use Rattle.entries.specs.Opened.{opened}
 use Rattle.doorquill.specs.Lent.{LeftLent, tableOf, checksLent, leftBy, readSectionsLent}
 
 abbrev vector : (min max state reference : ℕ) → Vector
 vector a b s r = record { min = a; max = b; state = s; reference = r }

@@ -20,10 +20,10 @@ use Rattle.gather.specs.Run.Rendered.{rendered, valuesOf, stepsOf, Within}
 use Rattle.gather.specs.Run.Events.{Ends, made, Overflows, Refusal}
 use Rattle.gather.specs.Run.Events.Laws as running
 use Rattle.answers.specs.Outcome.{Outcome, accepted, refused, answer, eventBytes, valueBytes, Lent}
-use Rattle.doorquill.specs.Entries.{checked, outcome, reads}
+use Rattle.entries.specs.Entries.{checked, outcome, reads}
 use Rattle.answers.specs.Outcome.Laws.{Allowed, acceptance-is, refusal-is}
-use Rattle.doorquill.specs.Entries.Numbers.{checks-number}
-use Rattle.doorquill.specs.Entries.Scanned.{Scanned}
+use Rattle.entries.specs.Entries.Numbers.{checks-number}
+use Rattle.entries.specs.Entries.Scanned.{Scanned}
 
 -- the entry's own checks
 abbrev pub checksOf : Lists → ℕ → Lent → Check

@@ -6,7 +6,7 @@ use mathlib.Core.Bool.{Bool}
 use mathlib.Core.List.{List}
 use Rattle.tables.specs.Lists.{Lists}
 use Rattle.answers.specs.Outcome.{LeftKept}
-use Rattle.doorquill.specs.Written.{writeSections, readBack}
+use Rattle.entries.specs.Written.{writeSections, readBack}
 
 -- "Prove that two outcomes satisfying it are equal"
 pub written-unique : (t : Lists) (flag : Bool) (s : List ℕ) (room : ℕ) (a b : LeftKept) → a ≡ writeSections t flag s room → b ≡ writeSections t flag s room → a ≡ b

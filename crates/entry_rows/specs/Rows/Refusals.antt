@@ -9,9 +9,9 @@ use Rattle.numbers.specs.Fixed.{bigBytes}
 use Rattle.tables.specs.Lists.{Lists}
 use Rattle.gather.specs.Run.{done}
 use Rattle.answers.specs.Outcome.{accepted, refused}
-use Rattle.doorquill.specs.Entries.{reads, readSections, readChanges, applyTimeRule}
-use Rattle.doorquill.specs.Rows.{Refuses, Gives, Fully, Keeps, lent, ample, tables, noSignals, lone, plain, twoState, nineState, small, sections, tailer, changes, rule}
-use Rattle.doorquill.specs.Rows.Opened.{opened}
+use Rattle.entries.specs.Entries.{reads, readSections, readChanges, applyTimeRule}
+use Rattle.entry_rows.specs.Rows.{Refuses, Gives, Fully, Keeps, lent, ample, tables, noSignals, lone, plain, twoState, nineState, small, sections, tailer, changes, rule}
+use Rattle.entries.specs.Opened.{opened}
 
 -- each of the ids 1, 2, .. is a vector of its own
 abbrev singles : (ids : List ℕ) → Lists

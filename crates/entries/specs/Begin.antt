@@ -31,7 +31,7 @@ use Rattle.gather.specs.Begin.{tabled, nothing, roomsOf, numbersOf, begins, wri
 use Rattle.gather.specs.declared.Part.{Part}
 use Rattle.gather.specs.declared.Part.the-variants as part
 use Rattle.answers.specs.Outcome.{Outcome, refused, Left, Lent, leaves}
-use Rattle.doorquill.specs.Entries.{outcome, checked, reads, readSections, readChanges}
+use Rattle.entries.specs.Entries.{outcome, checked, reads, readSections, readChanges}
 use Rattle.reading_ends.specs.Reading.{lentOf, Used, endedAt, Within, Finish, Ended}
 
 -- ---- zeros, and a part of them lent

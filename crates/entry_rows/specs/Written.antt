@@ -13,10 +13,10 @@ use Rattle.checks.specs.Checked as checks
 use Rattle.sections_writer.specs.Writer as writer
 use Rattle.read_back.specs.ReadBack as back
 use Rattle.answers.specs.Outcome.{LeftKept}
-use Rattle.doorquill.specs.Rows.{Refuses, Keeps, tables, noSignals, lone, small}
-use Rattle.doorquill.specs.Rows.Opened.{opened}
+use Rattle.entry_rows.specs.Rows.{Refuses, Keeps, tables, noSignals, lone, small}
+use Rattle.entries.specs.Opened.{opened}
 use Rattle.answers.specs.Filled.{filled}
-use Rattle.doorquill.specs.Written.{writeSections, readBack}
+use Rattle.entries.specs.Written.{writeSections, readBack}
 
 unfoldable all : Unit {0}
 unfolding opened shortest.fits shortest.rest shortest.groups littles.littleBytes littles.fixedBytes checks.checksWithoutRoom writer.timeBytes writer.timeGood writer.valueBytes writer.writeBytes writer.cycleEnd writer.closing writer.givenTime writer.givenWrite writer.given writer.one writer.writing writer.writeSections back.unmapped back.byteOf back.writeOf back.recordOf back.times back.giving back.readBack filled writeSections readBack

@@ -5,9 +5,9 @@ use mathlib.Core.Bool.{true}
 use mathlib.Core.List.{[], _∷_, _++_}
 use lib.ListN.{replicate}
 use Rattle.numbers.specs.Fixed.{bigBytes}
-use Rattle.doorquill.specs.Entries.{readSections}
-use Rattle.doorquill.specs.Rows.{Gives, Fully, Keeps, ample, tables, noSignals, lone, plain, twoState, nineState, sections, changes, rule}
-use Rattle.doorquill.specs.Rows.Opened.{opened}
+use Rattle.entries.specs.Entries.{readSections}
+use Rattle.entry_rows.specs.Rows.{Gives, Fully, Keeps, ample, tables, noSignals, lone, plain, twoState, nineState, sections, changes, rule}
+use Rattle.entries.specs.Opened.{opened}
 
 -- "(c) if the width is at most 7 or a multiple of 8 and every bit is marked, make an event and clear": so on 7, 8 and 16, and on two nine-state values;
 -- "Rule (c) never acts on widths such as 9 or 12": every bit written, and one of them once more

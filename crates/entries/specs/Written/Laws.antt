@@ -17,8 +17,8 @@ use Rattle.read_back.specs.ReadBack as back
 use Rattle.read_back.specs.ReadBack.Kinds.{back-kinds}
 use Rattle.answers.specs.Outcome.{refused, LeftKept, leavesKept}
 use Rattle.answers.specs.Filled.{filled}
-use Rattle.doorquill.specs.Entries.{checked}
-use Rattle.doorquill.specs.Written.{writeSections, readBack}
+use Rattle.entries.specs.Entries.{checked}
+use Rattle.entries.specs.Written.{writeSections, readBack}
 
 module _ (t : Lists) (flag : Bool) (s : List ℕ) (room : ℕ) {c : Check} (e : c ≡ checksWithoutRoom t (length s) room) {x : LeftKept} where
   pub write-passed : c ≡ check.Passed → x ≡ leavesKept room (filled (writer.writeSections (ofKinds (t .kinds)) flag s room)) → x ≡ writeSections t flag s room

@@ -14,7 +14,7 @@ use Rattle.encoder.specs.Rule.Keeping.{Keeps, Refusal}
 use Rattle.encoder.specs.Rule.Keeping.Laws.{rule-keeps}
 use Rattle.encoder.specs.Rule.Keeping.Refusals.{rule-refuses}
 use Rattle.answers.specs.Outcome.{Outcome, accepted, refused, answer, eventBytes, valueBytes}
-use Rattle.doorquill.specs.Entries.{ruled}
+use Rattle.entries.specs.Entries.{ruled}
 use Rattle.answers.specs.Outcome.Laws.{Allowed, acceptance-is, refusal-is}
 
 -- "1,073,741,823 bytes .. in any other buffer, the time rule's event and value inputs among them": the entry's own check

@@ -9,8 +9,7 @@ use Rattle.numbers.specs.Fixed.{bigBytes}
 use Rattle.tables.specs.Lists.{Lists}
 use Rattle.answers.specs.declared.Answer.{Answer}
 use Rattle.answers.specs.Outcome.{Left, Lent, LeftKept}
-use Rattle.doorquill.specs.Entries.{readSections, readChanges, applyTimeRule}
-pub mod Opened
+use Rattle.entries.specs.Entries.{readSections, readChanges, applyTimeRule}
 pub mod Worked
 pub mod Readings
 pub mod Sentences

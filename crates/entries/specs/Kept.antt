@@ -13,7 +13,7 @@ use Rattle.encoder.specs.Rule.{timeRule}
 use Rattle.encoder.specs.Rule.Promise.{Says, Applies}
 use Rattle.answers.specs.Outcome.{refused, LeftKept, leavesKept}
 use Rattle.answers.specs.Filled.{filledAt, Reported, Within}
-use Rattle.doorquill.specs.Entries.{ruled, applyTimeRule}
+use Rattle.entries.specs.Entries.{ruled, applyTimeRule}
 
 module _ {s : List ℕ} {values room : ℕ} {kept : List ℕ} where
   pub applied-within : {a : Written} → Applies s values room kept a → Within kept a

@@ -10,10 +10,9 @@ use Rattle.sections_writer.specs.Writer as writer
 use Rattle.read_back.specs.ReadBack as back
 use Rattle.answers.specs.Outcome.{LeftKept, leavesKept}
 use Rattle.answers.specs.Filled.{filled}
-use Rattle.doorquill.specs.Entries.{checked}
+use Rattle.entries.specs.Entries.{checked}
 pub mod Laws
 pub mod Unique
-pub mod Rows
 
 -- "Checks 1 to 6 come first": 6 asks about working room, of which these calls are lent none and need none, so it is never given
 unfoldable pub writeSections : Lists → Bool → List ℕ → (room : ℕ) → LeftKept

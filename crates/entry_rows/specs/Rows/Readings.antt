@@ -9,9 +9,9 @@ use native.Mathlib.Nat.{sub-zero}
 use lib.ListN.{length, replicate}
 use Rattle.numbers.specs.Fixed.{bigBytes}
 use Rattle.answers.specs.Outcome.{Outcome, refused, answer, Lent, leaves}
-use Rattle.doorquill.specs.Entries.{readSections}
-use Rattle.doorquill.specs.Rows.{Refuses, Gives, Keeps, left, lent, ample, tables, noSignals, lone, plain, twoState, sections, tailer, changes, rule}
-use Rattle.doorquill.specs.Rows.Opened.{opened}
+use Rattle.entries.specs.Entries.{readSections}
+use Rattle.entry_rows.specs.Rows.{Refuses, Gives, Keeps, left, lent, ample, tables, noSignals, lone, plain, twoState, sections, tailer, changes, rule}
+use Rattle.entries.specs.Opened.{opened}
 
 -- A1. The place of an accepted answer is 0.
 pub accepted-place :

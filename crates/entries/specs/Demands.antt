@@ -32,13 +32,13 @@ use Rattle.encoder.specs.Rule.Keeping.Laws.{kept-part}
 use Rattle.encoder.specs.Rule.Keeping as keeping
 use Rattle.answers.specs.declared.Answer.{Answer}
 use Rattle.answers.specs.Outcome.{Outcome, answer, eventBytes, valueBytes, padded, Left, Lent, LeftKept, leaves, leavesKept}
-use Rattle.doorquill.specs.Entries.{reads, readSections, readChanges, applyTimeRule}
+use Rattle.entries.specs.Entries.{reads, readSections, readChanges, applyTimeRule}
 use Rattle.answers.specs.Outcome.Laws.{Allowed, padded-length, padded-front, padded-past, padded-nothing, answer-events, answer-values, refusal-rest, refusal-events, refusal-values, acceptance-place, allowed-number, allowed-read, allowed-events, allowed-values}
-use Rattle.doorquill.specs.Entries.Scanned.{Scanned, sections-scanned, changes-scanned}
-use Rattle.doorquill.specs.Entries.Reads as reading
-use Rattle.doorquill.specs.Entries.Reads.{checksOf, roomsOf, eventsFrom}
-use Rattle.doorquill.specs.Entries.Keeps as ruling
-use Rattle.doorquill.specs.Entries.Keeps.{limitsOf, ruleOutcome}
+use Rattle.entries.specs.Entries.Scanned.{Scanned, sections-scanned, changes-scanned}
+use Rattle.entries.specs.Entries.Reads as reading
+use Rattle.entries.specs.Entries.Reads.{checksOf, roomsOf, eventsFrom}
+use Rattle.entries.specs.Entries.Keeps as ruling
+use Rattle.entries.specs.Entries.Keeps.{limitsOf, ruleOutcome}
 
 -- ---- demand 1
 

@@ -1,0 +1,7 @@
+pub mod Entries
+pub mod Opened
+pub mod Kept
+pub mod Unique
+pub mod Demands
+pub mod Begin
+pub mod Written

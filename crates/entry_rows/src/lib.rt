@@ -1,0 +1,1 @@
+// Small inputs through the entries' definitions, each by computation: no code.
