@@ -2,10 +2,10 @@
 use crate::Vector;
 use crate::doorquill_read_sections;
 use answers::Answer;
+use flat_runs::clear_all;
 use flat_runs::greatest_ids;
 use flat_runs::least_ids;
 use flat_runs::references;
-use reading_ends::clear_all;
 use reading_ends::refuse;
 use tables::Check;
 use tables::check_limits;

@@ -27,9 +27,6 @@ lentOf e v r l = record { events = length e; values = length v; room = length r;
 
 -- ---- zeros
 
-pub all-zeros : (l : List ℕ) {l' : List ℕ} → l' ≡ splice l 0 (replicate (length l) 0) → l' ≡ replicate (length l) 0
-all-zeros l e = e ∙ splice-all l (replicate (length l) 0) (length-replicate (length l) 0)
-
 -- of the working buffers the first n bytes and the first v numbers are used, and there are zeros past them
 pub record Used (n v : ℕ) (room list : List ℕ) : Type 0 where
   pub bytes : n ≤ length room
@@ -51,9 +48,7 @@ module _ {n v : ℕ} {room list : List ℕ} (u : Used n v room list) where
   list-cleared e = e ∙ u .list-zeros
 
 pub used-whole : (room list : List ℕ) → Used (length room) (length list) room list
-used-whole room list = record { bytes = omega arith; numbers = omega arith; room-zeros = all-zeros room refl; list-zeros = all-zeros list refl }
-
-pub ruleset zero-laws = (all-zeros)
+used-whole room list = record { bytes = omega arith; numbers = omega arith; room-zeros = splice-all room (replicate (length room) 0) (length-replicate (length room) 0); list-zeros = splice-all list (replicate (length list) 0) (length-replicate (length list) 0) }
 
 pub ruleset used-laws = (ask-bytes, ask-numbers, room-cleared, list-cleared)
 

@@ -16,13 +16,6 @@ ghost use Rattle.vecstarts.specs.Numbers.{Shapes, layoutFrom, filled};
 ghost use Rattle.answers.specs.Outcome.{accepted, refused, leaves};
 ghost use Rattle.reading_ends.specs.Reading.{leftOf, lentOf, Used, Ready, endedAt, Finish};
 
-// All of a working buffer of numbers becomes zero.
-pub fn clear_all(list: &mut [u32])
-    ensures { λ _. ⌜ now (list .exit) ≡ replicate (length (now (list .entry))) 0 ⌝ }
-{
-    clear_numbers(list, 0, list.len());
-}
-
 // What was used of the working buffers becomes zero, the first `n` bytes and the first `v` numbers: there are zeros past them.
 fn clear_used(room: &mut [u8], list: &mut [u32], n: usize, v: usize)
     requires { ⌜ Used n v (now room) (now list) ⌝ }

@@ -1,8 +1,8 @@
--- `reading_ends::clear_all` meets its contract: each need follows from `zero-laws`. Assumes nothing.
-use Rattle.reading_ends.specs.Reading.{zero-laws}
+-- `flat_runs::clear_all` meets its contract: each need follows from `zero-laws`. Assumes nothing.
+use Rattle.flat_runs.specs.Runs.{zero-laws}
 use borrow.Author.Needs.{needs}
-use Rattle.reading_ends.proofs.clear_all.Statement.{statement}
-use Rattle.reading_ends.proofs.clear_all.Tie as tie
+use Rattle.flat_runs.proofs.clear_all.Statement.{statement}
+use Rattle.flat_runs.proofs.clear_all.Tie as tie
 
 clear-numbers-requires : tie.Need-clear-numbers-requires
 clear-numbers-requires c κs = search (zero-laws, needs)
