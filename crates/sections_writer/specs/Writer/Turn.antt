@@ -18,6 +18,8 @@ use Rattle.written.specs.Put.{afterPut, Puts, puts-one, puts-short, puts-more}
 use Rattle.written.specs.Shortest.{unsignedBytes, signedBytes}
 use Rattle.written.specs.Little.{littleBytes, fixedBytes}
 use Rattle.written.specs.Little.Laws.{length-littleBytes, length-fixedBytes}
+use Rattle.filling.specs.Filling.Steps as step
+use Rattle.filling.specs.Filling.Steps.{Step, landed, DoesBy}
 use Rattle.sections_writer.specs.declared.Pen.{Pen}
 use Rattle.sections_writer.specs.declared.Progress.{Progress}
 use Rattle.sections_writer.specs.declared.Turn.{Turn}
@@ -173,24 +175,22 @@ pub ruleset closing-laws = (closing-short, closing-more)
 
 -- ---- one record
 
+-- what a record gives, as a step of a definition that fills an output
+abbrev pub stepOf : Pen → Given → Step Pen
+stepOf p (goes bs q j) = step.goes bs q j
+stepOf p (ends bs j) = step.ends bs j (p .steps)
+stepOf p (stops n q) = step.stops n q
+
+abbrev pub going : Pen → (read count : ℕ) → Turn
+going q j c = More (record { pen = q; read = j; count = c })
+
 -- after a record's bytes
 abbrev pub goneTo : Pen → ℕ → Field → Turn
-goneTo q j (Next c) = More (record { pen = q; read = j; count = c })
-goneTo q j Short = Over (Refused 16 j)
-
--- .. and after the last ones
-abbrev pub endedAt : ℕ → ℕ → Field → Turn
-endedAt steps j (Next c) = Over (Done j c steps)
-endedAt steps j Short = Over (Refused 16 j)
-
-abbrev pub DoesBy : List ℕ → Progress → Given → List ℕ → Turn → Type 0
-DoesBy out p (goes bs q j) out' r = (f : Field) × Puts out (p .count) bs out' f × (r ≡ goneTo q j f)
-DoesBy out p (ends bs j) out' r = (f : Field) × Puts out (p .count) bs out' f × (r ≡ endedAt (p .pen .steps) j f)
-DoesBy out p (stops n q) out' r = r ≡ Over (Refused n q)
+goneTo q j f = landed (going q j) (Over (Refused 16 j)) f
 
 -- what a record gives is put, or it does not fit, or it is refused
 pub record Does (out : List ℕ) (p : Progress) (g : Given) (out' : List ℕ) (r : Turn) : Type 0 where
-  pub does : DoesBy out p g out' r
+  pub does : DoesBy going Over out (p .count) (stepOf (p .pen) g) out' r
 
 module _ (q : Pen) (j : ℕ) {f : Field} where
   pub gone-next : {c : ℕ} → f ≡ Next c → More (record { pen = q; read = j; count = c }) ≡ goneTo q j f
