@@ -37,35 +37,37 @@ module _ {X T : Type 0} (more : X → (read count : ℕ) → T) (over : Written 
 
 -- ---- what the definition says
 
-module _ {X : Type 0} (Left : X → ℕ → List ℕ → Type 0) (size : X → ℕ → ℕ) (room : ℕ) (whole : Ended) where
-  -- behind these bytes the definition says what a step gives and then what is left; "16" where its bytes do not fit
+-- `of` is an end, as the definition says it
+module _ {X A : Type 0} (of : Ended → A) (whole : A) (Left : X → ℕ → List ℕ → Type 0) (size : X → ℕ → ℕ)
+    (room : ℕ) where
+  -- behind these bytes the definition says what a step gives, and then what is left; 16 where its bytes do not fit
   abbrev pub Takes : (held : List ℕ) (m : ℕ) → Step X → Type 0
   Takes held m (goes bs y j) =
       (length held + length bs ≤ room → Left y j (held ++ bs) × (size y j < m))
-      × (room < length held + length bs → whole ≡ refused 16 j)
+      × (room < length held + length bs → whole ≡ of (refused 16 j))
   Takes held m (ends bs j k) =
-      (length held + length bs ≤ room → whole ≡ wrote j (held ++ bs) k)
-      × (room < length held + length bs → whole ≡ refused 16 j)
-  Takes held m (stops k p) = whole ≡ refused k p
+      (length held + length bs ≤ room → whole ≡ of (wrote j (held ++ bs) k))
+      × (room < length held + length bs → whole ≡ of (refused 16 j))
+  Takes held m (stops k p) = whole ≡ of (refused k p)
 
 -- ---- a turn
 
-module _ {X T : Type 0} (more : X → (read count : ℕ) → T) (over : Written → T) (C : T → Type 0)
-    {Left : X → ℕ → List ℕ → Type 0} {size : X → ℕ → ℕ} {whole : Ended} {room out' : List ℕ} {m : ℕ}
+module _ {X A T : Type 0} {of : Ended → A} {whole : A} {Left : X → ℕ → List ℕ → Type 0} {size : X → ℕ → ℕ} {m : ℕ}
+    {room out out' : List ℕ} {L : List ℕ → Type 0} {n : ℕ} (o : Filling L room n out)
+    (more : X → (read count : ℕ) → T) (over : Written → T) (C : T → Type 0)
     (go : (y : X) (j c : ℕ) → Filling (Left y j) room c out' → size y j < m → C (more y j c))
-    (end : (a : Written) → Fills whole room out' a → C (over a))
-    {L : List ℕ → Type 0} {n : ℕ} {out : List ℕ} (o : Filling L room n out) where
-  -- it goes on with less to do, or the answer is the definition's
-  pub filling-step : (g : Step X) → Takes Left size (length room) whole (o .held) m g → (r : T)
+    (end : (e : Ended) (a : Written) → whole ≡ of e → Fills e room out' a → C (over a)) where
+  -- it goes on with less to do, or its answer is the definition's
+  pub filling-step : (g : Step X) → Takes of whole Left size (length room) (o .held) m g → (r : T)
       → DoesBy more over out n g out' r → C r
   filling-step (goes bs y j) t r (f, q, e) = subst C (sym e) (by f q)
     where
       by : (f : Field) → Puts out n bs out' f → C (landed (more y j) (over (Refused 16 j)) f)
-      by (Next c) q = go y j c (filling-turn o q refl (λ h. t .0 h .0)) (t .0 (filling-fits o q refl) .1)
-      by Short q = end (Refused 16 j) (filling-bad (t .1 (filling-full o q refl)))
+      by (Next c) q = let l = t .0 (filling-fits o q refl) in go y j c (filling-turn o q refl (l .0)) (l .1)
+      by Short q = end _ _ (t .1 (filling-full o q refl)) (filling-bad room out' 16 j)
   filling-step (ends bs j k) t r (f, q, e) = subst C (sym e) (by f q)
     where
       by : (f : Field) → Puts out n bs out' f → C (landed (λ c. over (Done j c k)) (over (Refused 16 j)) f)
-      by (Next c) q = end (Done j c k) (filling-done o q refl (t .0))
-      by Short q = end (Refused 16 j) (filling-bad (t .1 (filling-full o q refl)))
-  filling-step (stops k p) t r e = subst C (sym e) (end (Refused k p) (filling-bad t))
+      by (Next c) q = end _ _ (t .0 (filling-fits o q refl)) (filling-done o q refl j k)
+      by Short q = end _ _ (t .1 (filling-full o q refl)) (filling-bad room out' 16 j)
+  filling-step (stops k p) t r e = subst C (sym e) (end _ _ t (filling-bad room out' k p))

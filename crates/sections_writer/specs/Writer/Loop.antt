@@ -89,42 +89,52 @@ module _ (t : Lists) (flag : Bool) (s : List ℕ) where
   abbrev stepAt : Pen → ℕ → Step Pen
   stepAt p i = stepOf p (given t flag s p i (nextChange t s (p .inside) i))
 
-  given-ahead : (p : Pen) (i : ℕ) → Few p i → (c : Change) → Found t s i c → Ahead Few (length s) i (stepOf p (given t flag s p i c))
-  unfolding given givenTime givenWrite
-  given-ahead p i h (change.Time u j) f =
-      cond-ind (timeGood p u) _ _ (λ g. Ahead Few (length s) i (stepOf p g)) (λ e. (f .0, f .1, omega (arith, f .0))) (λ e. tt)
-  given-ahead p i h (change.Write id v j) f =
-      cond-ind (ltb (p .id) id) _ _ (λ g. Ahead Few (length s) i (stepOf p g)) (λ e. (f .0, f .1, omega (arith, f .0))) (λ e. tt)
-  given-ahead p i h (change.StepEnd j) f = (f .0, f .1, omega (arith, f .0))
-  given-ahead p i h (change.End j) f = tt
-  given-ahead p i h (change.Bad n q) f = tt
+  module _ (p : Pen) (i : ℕ) (h : Few p i) where
+    abbrev AheadOf : Given → Type 0
+    AheadOf g = Ahead Few s i (stepOf p g)
+
+    given-ahead : (c : Change) → Found t s i c → AheadOf (given t flag s p i c)
+    unfolding given givenTime givenWrite
+    given-ahead (change.Time u j) f =
+        cond-ind (timeGood p u) _ _ AheadOf (λ e. (f .0, f .1, omega (arith, f .0))) (λ e. tt)
+    given-ahead (change.Write id v j) f =
+        cond-ind (ltb (p .id) id) _ _ AheadOf (λ e. (f .0, f .1, omega (arith, f .0))) (λ e. tt)
+    given-ahead (change.StepEnd j) f = (f .0, f .1, omega (arith, f .0))
+    given-ahead (change.End j) f = tt
+    given-ahead (change.Bad n q) f = tt
 
   module _ (room : ℕ) where
-    one-is : (p : Pen) (held : List ℕ) (g : Given) (more : Pen → List ℕ → ℕ → Ended) → one t flag s room p held g more ≡ onStep room held (stepOf p g) more
+    one-is : (p : Pen) (held : List ℕ) (g : Given) (more : Pen → List ℕ → ℕ → Ended)
+        → one t flag s room p held g more ≡ onStep (λ e. e) room held (stepOf p g) more
     unfolding one onStep
     one-is p held (goes bs q j) more = refl
     one-is p held (ends bs j) more = refl
     one-is p held (stops n q) more = refl
 
-    stepwise : Stepwise Few (writing t flag s room) s stepAt room
+    stepwise : Stepwise Few (writing t flag s room) s (λ e. e) stepAt room
     unfolding writing
     stepwise =
         record {
           ahead = λ p i h. given-ahead p i h _ (change-found t s i (p .inside) refl refl);
-          once = λ fuel p held i. one-is p held _ _;
+          once = λ fuel p held i l. one-is p held _ _;
           last = λ p held i h l. (_, one-is p held _ _);
         }
 
 -- ---- how far it has come
 
+abbrev Here : Lists → Bool → (s out₀ : List ℕ) → Progress → List ℕ → Type 0
+Here t flag s out₀ p =
+    Reading Few (writing t flag s (length out₀)) s (writeSections t flag s (length out₀)) (p .pen) (p .read)
+
 pub record On (t : Lists) (flag : Bool) (s out₀ : List ℕ) (p : Progress) (out : List ℕ) : Type 0 where
-  pub filling : Filling (Reading Few (writing t flag s (length out₀)) s (writeSections t flag s (length out₀)) (p .pen) (p .read)) out₀ (p .count) out
+  pub filling : Filling (Here t flag s out₀ p) out₀ (p .count) out
 
 abbrev Comes : Lists → Bool → (s out₀ : List ℕ) → Progress → List ℕ → Turn → Type 0
 Comes t flag s out₀ p out (More q) = On t flag s out₀ q out × (length s - q .read < length s - p .read)
 Comes t flag s out₀ p out (Over a) = Fills (writeSections t flag s (length out₀)) out₀ out a
 
-pub on-start : (t : Lists) (flag : Bool) (s out : List ℕ) → On t flag s out (record { pen = begin; read = 0; count = 0 }) out
+pub on-start : (t : Lists) (flag : Bool) (s out : List ℕ)
+    → On t flag s out (record { pen = begin; read = 0; count = 0 }) out
 unfolding writeSections
 on-start t flag s out = record { filling = filling-start out (reading-start (omega arith)) }
 
@@ -136,7 +146,7 @@ module _ {t : Lists} {flag : Bool} {s out₀ : List ℕ} {p : Progress} {out : L
     came : Comes t flag s out₀ p out' r
     came =
         reading-turn (stepwise t flag s (length out₀)) (o .filling) going Over (Comes t flag s out₀ p out')
-        (λ q j c f l. (record { filling = f }, l)) (λ a f. f) r (d .does)
+        (λ q j c f l. (record { filling = f }, l)) (λ e a w f. rw w f) r (d .does)
 
     pub on-more : {q : Progress} → r ≡ More q → On t flag s out₀ q out'
     on-more e = subst (Comes t flag s out₀ p out') e came .0
