@@ -4,12 +4,10 @@ use mathlib.Core.Path.{_≡_, refl, sym, _∙_}
 use Prim.Native.Nat.{ℕ, _-_, _^_, _≤_, _<_}
 use mathlib.Core.Bool.{Bool, true, false, _&&_}
 use mathlib.Core.List.{List, [], _∷_, _++_}
-use native.Mathlib.Nat.{add-zero}
 use native.Mathlib.Omega.{arith}
 use borrow.Author.Tests.{lt-ltb, le-ltb, le-leb, lt-leb, leb-true, eq-eqb, ne-eqb}
 use lib.ListN.{length, getD, replicate}
 use lib.Dec.{leb}
-use Rattle.slices.specs.Splice.Laws.{splice-nil}
 use Rattle.slices.specs.Field.{fieldOf}
 use Rattle.slices.specs.declared.Field.{Field}
 use Rattle.slices.specs.declared.Field.the-variants.{Next, Short}
@@ -18,6 +16,7 @@ use Rattle.written.specs.Put.{afterPut, Puts, puts-one, puts-short, puts-more}
 use Rattle.written.specs.Shortest.{unsignedBytes, signedBytes}
 use Rattle.written.specs.Little.{littleBytes, fixedBytes}
 use Rattle.written.specs.Little.Laws.{length-littleBytes, length-fixedBytes}
+use Rattle.filling.specs.Filling.{puts-none}
 use Rattle.filling.specs.Filling.Steps as step
 use Rattle.filling.specs.Filling.Steps.{Step, landed, DoesBy}
 use Rattle.sections_writer.specs.declared.Pen.{Pen}
@@ -149,7 +148,7 @@ pub ruleset write-laws = (puts-one, write-short, write-more)
 module _ (p : Pen) {out : List ℕ} {at : ℕ} where
   pub cycle-none : p .steps ≡ 0 → at ≤ length out → Puts out at (cycleEnd p) out (Next at)
   unfolding cycleEnd
-  cycle-none e h = rw e (record { lies = (splice-nil out at, sym (add-zero at), h) })
+  cycle-none e h = rw e (puts-none out at h)
 
   module _ (n : p .steps ≡ 0 → ⊥) {out₁ : List ℕ} {f : Field} (d : f ≡ fieldOf (length (signedBytes 0xffff_ffff_ffff_ffff)) out at) (e : out₁ ≡ afterPut out at (signedBytes 0xffff_ffff_ffff_ffff)) where
     pub cycle-short : f ≡ Short → Puts out at (cycleEnd p) out₁ Short
