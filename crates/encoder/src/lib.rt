@@ -10,7 +10,7 @@ ghost use lib.ListN.{length};
 ghost use mathlib.Core.Bool.{cond};
 ghost use Rattle.encoder.specs.Rule.{keeps, ticks, times};
 ghost use Rattle.encoder.specs.Rule.Promise.{Applies};
-ghost use Rattle.encoder.specs.Rule.Code.{On, Fit, Turns, Turned};
+ghost use Rattle.encoder.specs.Rule.Code.{Fit, Does, nextAt};
 
 // The last kept time, once there is one, and whether events are skipped.
 pub struct Clock {
@@ -102,7 +102,7 @@ fn room_taken(clock: Clock, event: Record, size: usize) -> usize
 // "Kept events are copied unaltered", where they fit.
 fn take_event(s: &[u8], kept: &mut [u8], p: Progress, event: Record, next: usize) -> Turn
     requires { ⌜ Fit (now s) (now kept) p next ⌝ }
-    ensures { λ r. ⌜ Turns (now (s .entry)) (now (kept .entry)) p event next (now (kept .exit)) r ⌝ }
+    ensures { λ r. ⌜ Does (now (s .entry)) (now (kept .entry)) p (Next.Event event next) (now (kept .exit)) r ⌝ }
 {
     let size = next - p.read;
     let n = room_taken(p.clock, event, size);
@@ -120,8 +120,10 @@ fn take_event(s: &[u8], kept: &mut [u8], p: Progress, event: Record, next: usize
 
 // One record of the stream, or its end.
 fn one(s: &[u8], values: usize, kept: &mut [u8], p: Progress) -> Turn
-    requires { ⌜ On (now s) values (length (now kept)) p (now kept) ⌝ }
-    ensures { λ r. ⌜ Turned (now (s .entry)) values (length (now (kept .entry))) p (now (kept .exit)) r ⌝ }
+    requires { ⌜ (p .steps ≤ p .read) × (p .kept ≤ length (now kept)) ⌝ }
+    ensures { λ r.
+        let next = nextAt (now (s .entry)) values p in
+        ⌜ Does (now (s .entry)) (now (kept .entry)) p next (now (kept .exit)) r ⌝ }
 {
     let clock = p.clock;
     match next_event(s, values, clock.begun, p.read) {

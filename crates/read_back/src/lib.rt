@@ -19,13 +19,12 @@ ghost use mathlib.Core.List.{_∷_};
 ghost use Rattle.slices.specs.Field.{fieldOf};
 ghost use Rattle.numbers.specs.Fixed.{bigBytes};
 ghost use Rattle.section_parts.specs.Parts.{withKinds};
-ghost use Rattle.sections.specs.Item.{nextItem};
 ghost use Rattle.sections.specs.Item.Scans.{saidTimes};
 ghost use Rattle.written.specs.Ended.{Fills};
 ghost use Rattle.written.specs.Put.{Puts, afterPut};
 ghost use Rattle.read_back.specs.ReadBack.{byteOf, writeOf, readBack};
-ghost use Rattle.read_back.specs.ReadBack.Loop.{Ready};
-ghost use Rattle.read_back.specs.ReadBack.Turn.{Small, Fitting, Sounds, Counts, Takes, Does, saidBytes};
+ghost use Rattle.read_back.specs.ReadBack.Loop.{Ready, stepAt};
+ghost use Rattle.read_back.specs.ReadBack.Turn.{Small, Fitting, Sounds, Counts, Does, saidBytes, taking};
 
 // How far the bytes have been read, and how many bytes of records have been written.
 struct Progress {
@@ -143,7 +142,9 @@ fn take_item(
     mode: Stand,
 ) -> Turn
     requires { ⌜ (p .count ≤ length (now out)) × Sounds (now kinds) said × Counts p said next ⌝ }
-    ensures { λ r. ⌜ Takes (now (kinds .entry)) (now (out .entry)) p next said mode (now (out .exit)) r ⌝ }
+    ensures { λ r.
+        let step = taking (now (kinds .entry)) (p .steps) next said mode in
+        ⌜ Does (now (out .entry)) p step (now (out .exit)) r ⌝ }
 {
     let k = times_said(said);
     match put_said(kinds, out, p.count, said) {
@@ -161,8 +162,8 @@ fn take_item(
 fn one_item(kinds: &[u8], how: How, s: &[u8], out: &mut [u8], p: Progress) -> Turn
     requires { ⌜ Ready (now kinds) (now s) p (now out) ⌝ }
     ensures { λ r.
-        let item = nextItem (now (kinds .entry)) how (now (s .entry)) (p .mode) (p .read) in
-        ⌜ Does (now (kinds .entry)) (now (out .entry)) p item (now (out .exit)) r ⌝ }
+        let step = stepAt (now (kinds .entry)) how (now (s .entry)) p in
+        ⌜ Does (now (out .entry)) p step (now (out .exit)) r ⌝ }
 {
     let mode = p.mode;
     let item = next_item(kinds, how, s, mode, p.read);

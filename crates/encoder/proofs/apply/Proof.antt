@@ -1,3 +1,4 @@
+-- Written by tools/proof-answers from proofs.map.
 -- `encoder::apply` meets its contract: each need follows from `apply-laws`. Assumes nothing.
 use Prim.Native.Nat.{_-_}
 use lib.ListN.{length}
@@ -7,7 +8,7 @@ use Rattle.encoder.proofs.apply.Statement.{statement}
 use Rattle.encoder.proofs.apply.Tie as tie
 
 abbrev Inv-loop : tie.InvT-loop
-Inv-loop s values kept₀ p₀ kept p = On s values (length kept₀) p kept
+Inv-loop s values kept₀ p₀ kept p = On s values kept₀ p kept
 
 abbrev μ-loop : tie.MeasureT-loop
 μ-loop s values kept₀ p₀ kept p = length s - p .read

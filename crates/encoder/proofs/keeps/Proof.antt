@@ -1,3 +1,4 @@
+-- Written by tools/proof-answers from proofs.map.
 -- `encoder::keeps` meets its contract: each need follows from `keeps-laws`. Assumes nothing.
 use Rattle.encoder.specs.Rule.Code.{keeps-laws}
 use borrow.Author.Needs.{needs}

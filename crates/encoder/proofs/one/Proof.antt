@@ -1,3 +1,4 @@
+-- Written by tools/proof-answers from proofs.map.
 -- `encoder::one` meets its contract: each need follows from `one-laws`. Assumes nothing.
 use Rattle.encoder.specs.Rule.Code.{one-laws}
 use borrow.Author.Needs.{needs}

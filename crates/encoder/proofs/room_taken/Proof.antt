@@ -1,3 +1,4 @@
+-- Written by tools/proof-answers from proofs.map.
 -- `encoder::room_taken` meets its contract: each need follows from `kept-laws`. Assumes nothing.
 use Rattle.encoder.specs.Rule.Code.{kept-laws}
 use borrow.Author.Needs.{needs}

@@ -1,3 +1,4 @@
+-- Written by tools/proof-answers from proofs.map.
 -- `encoder::take_event` meets its contract: each need follows from `take-laws`. Assumes nothing.
 use Rattle.encoder.specs.Rule.Code.{take-laws}
 use borrow.Author.Needs.{needs}

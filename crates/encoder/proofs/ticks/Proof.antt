@@ -1,3 +1,4 @@
+-- Written by tools/proof-answers from proofs.map.
 -- `encoder::ticks` meets its contract: each need follows from `ticks-laws`. Assumes nothing.
 use Rattle.encoder.specs.Rule.Code.{ticks-laws}
 use borrow.Author.Needs.{needs}

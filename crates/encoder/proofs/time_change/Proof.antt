@@ -1,3 +1,4 @@
+-- Written by tools/proof-answers from proofs.map.
 -- `encoder::time_change` meets its contract: each need follows from `clock-laws`. Assumes nothing.
 use borrow.Author.Needs.{needs}
 use Rattle.encoder.specs.Rule.Code.{clock-laws}

@@ -1,3 +1,4 @@
+-- Written by tools/proof-answers from proofs.map.
 -- `encoder::times` meets its contract: each need follows from `times-laws`. Assumes nothing.
 use Rattle.encoder.specs.Rule.Code.{times-laws}
 use borrow.Author.Needs.{needs}

@@ -1,3 +1,4 @@
+-- Written by tools/proof-answers from proofs.map.
 -- `read_back::byte_of` meets its contract: each need follows from `byte-laws`. Assumes nothing.
 use borrow.Author.Needs.{needs}
 use Rattle.read_back.specs.ReadBack.Turn.{byte-laws}

@@ -1,3 +1,4 @@
+-- Written by tools/proof-answers from proofs.map.
 -- `read_back::one_item` meets its contract: each need follows from `item-laws`. Assumes nothing.
 use Rattle.read_back.proofs.Arms.{item-laws}
 use borrow.Author.Needs.{needs}

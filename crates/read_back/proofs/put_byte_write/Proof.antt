@@ -1,3 +1,4 @@
+-- Written by tools/proof-answers from proofs.map.
 -- `read_back::put_byte_write` meets its contract: each need follows from `write-byte-laws`. Assumes nothing.
 use Rattle.read_back.specs.ReadBack.Turn.{write-byte-laws}
 use borrow.Author.Needs.{needs}

@@ -1,3 +1,4 @@
+-- Written by tools/proof-answers from proofs.map.
 -- `read_back::put_head` meets its contract: each need follows from `head-laws`. Assumes nothing.
 use Rattle.read_back.specs.ReadBack.Turn.{head-laws}
 use borrow.Author.Needs.{needs}

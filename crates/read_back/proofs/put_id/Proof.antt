@@ -1,3 +1,4 @@
+-- Written by tools/proof-answers from proofs.map.
 -- `read_back::put_id` meets its contract: each need follows from `id-laws`. Assumes nothing.
 use Rattle.read_back.specs.ReadBack.Turn.{id-laws}
 use borrow.Author.Needs.{needs}

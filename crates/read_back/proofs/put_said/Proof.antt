@@ -1,3 +1,4 @@
+-- Written by tools/proof-answers from proofs.map.
 -- `read_back::put_said` meets its contract: each need follows from `put-laws`. Assumes nothing.
 use Rattle.read_back.proofs.Arms.{put-laws}
 use borrow.Author.Needs.{needs}

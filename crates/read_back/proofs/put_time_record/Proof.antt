@@ -1,3 +1,4 @@
+-- Written by tools/proof-answers from proofs.map.
 -- `read_back::put_time_record` meets its contract: each need follows from `time-laws`. Assumes nothing.
 use Rattle.read_back.specs.ReadBack.Turn.{time-laws}
 use borrow.Author.Needs.{needs}

@@ -1,3 +1,4 @@
+-- Written by tools/proof-answers from proofs.map.
 -- `read_back::put_wide_write` meets its contract: each need follows from `write-wide-laws`. Assumes nothing.
 use Rattle.read_back.specs.ReadBack.Turn.{write-wide-laws}
 use borrow.Author.Needs.{needs}

@@ -1,3 +1,4 @@
+-- Written by tools/proof-answers from proofs.map.
 -- `read_back::put_write_record` meets its contract: each need follows from `write-laws`. Assumes nothing.
 use Rattle.read_back.specs.ReadBack.Turn.{write-laws}
 use borrow.Author.Needs.{needs}

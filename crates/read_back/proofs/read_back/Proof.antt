@@ -2,12 +2,12 @@
 use Prim.Native.Nat.{_-_}
 use lib.ListN.{length}
 use borrow.Author.Needs.{needs}
-use Rattle.read_back.specs.ReadBack.Loop.{OnKinds, left-over, loop-laws}
+use Rattle.read_back.specs.ReadBack.Loop.{On, left-over, loop-laws}
 use Rattle.read_back.proofs.read_back.Statement.{statement}
 use Rattle.read_back.proofs.read_back.Tie as tie
 
 abbrev Inv-loop : tie.InvT-loop
-Inv-loop kinds big-endian s out₀ how p₀ out p = OnKinds kinds how s out₀ p out
+Inv-loop kinds big-endian s out₀ how p₀ out p = On kinds how s out₀ p out
 
 abbrev μ-loop : tie.MeasureT-loop
 μ-loop kinds big-endian s out₀ how p₀ out p = left-over s p

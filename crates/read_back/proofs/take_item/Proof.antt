@@ -1,3 +1,4 @@
+-- Written by tools/proof-answers from proofs.map.
 -- `read_back::take_item` meets its contract: each need follows from `does-laws`. Assumes nothing.
 use Rattle.read_back.specs.ReadBack.Turn.{does-laws}
 use borrow.Author.Needs.{needs}

@@ -1,3 +1,4 @@
+-- Written by tools/proof-answers from proofs.map.
 -- `read_back::times_said` meets its contract: each need follows from `count-laws`. Assumes nothing.
 use Rattle.read_back.proofs.Arms.{count-laws}
 use borrow.Author.Needs.{needs}

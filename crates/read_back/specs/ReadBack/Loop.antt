@@ -7,13 +7,11 @@ use mathlib.Core.List.{List, [], _++_, append-nil}
 use native.Mathlib.Nat.{add-zero}
 use native.Mathlib.Omega.{arith}
 use borrow.Author.Tests.{le-leb, lt-leb}
-use lib.ListN.{length, length-append}
-use Rattle.slices.specs.Splice.{splice}
-use Rattle.slices.specs.Splice.Laws.{splice-nil, splice-splice, length-splice}
-use Rattle.slices.specs.declared.Field.{Field}
-use Rattle.slices.specs.declared.Field.the-variants.{Next, Short}
-use Rattle.written.specs.Ended.{refused, Fills}
-use Rattle.written.specs.Put.{Lies}
+use lib.ListN.{length}
+use Rattle.slices.specs.declared.Field.the-variants.{Next}
+use Rattle.written.specs.Ended.{Ended, refused, Fills}
+use Rattle.filling.specs.Filling.{Filling, puts-none, filling-start, filling-used, filling-inside}
+use Rattle.filling.specs.Filling.Steps.{Step, Takes, filling-step}
 use Rattle.tables.specs.Lists.{Lists}
 use Rattle.gather.specs.Run.{Scan}
 use Rattle.section_parts.specs.Parts.{withKinds}
@@ -33,7 +31,8 @@ use Rattle.read_back.specs.declared.Turn.the-variants.{More, Stops}
 use Rattle.written.specs.declared.Written.{Written}
 use Rattle.written.specs.declared.Written.the-variants.{Done, Refused}
 use Rattle.read_back.specs.ReadBack.{recordOf, times, giving, readBack}
-use Rattle.read_back.specs.ReadBack.Turn.{saidBytes, Sounds, Counts, goneTo, Takes, DoesBy, Does, does-take}
+use Rattle.read_back.specs.ReadBack.Turn.{saidBytes, Sounds, Counts, Does}
+use Rattle.read_back.specs.ReadBack.Turn.{going, taking, stepBy, stepOf, step-taking}
 
 -- ---- one item
 
@@ -61,19 +60,22 @@ module _ {kinds s : List ℕ} {p : Progress} {out : List ℕ} (w : Ready kinds s
     pub ready-counts : Counts p (x .said) (x .at)
     ready-counts = record { few = omega (arith, goes .ahead, w .few); more = omega (arith, goes .ahead, w .few) }
 
-module _ (kinds : List ℕ) (how : How) (s out : List ℕ) (p : Progress) (x : Item) (e : x ≡ nextItem kinds how s (p .mode) (p .read)) where
-  pub says-goes : ends (x .said) ≡ false → {out' : List ℕ} {r : Turn} → Takes kinds out p (x .at) (x .said) (x .then) out' r → Does kinds out p (nextItem kinds how s (p .mode) (p .read)) out' r
-  says-goes d {out'} {r} w = subst (λ y. Does kinds out p y out' r) e (record { does = does-take (x .said) d w })
+abbrev pub stepAt : List ℕ → How → List ℕ → Progress → Step (Stand × ℕ)
+stepAt kinds how s p = stepOf kinds (p .steps) (nextItem kinds how s (p .mode) (p .read))
 
-  pub says-over : x .said ≡ Over → Does kinds out p (nextItem kinds how s (p .mode) (p .read)) out (Stops (Done (x .at) (p .count) (p .steps)))
-  says-over d =
-      subst (λ y. Does kinds out p y out (Stops (Done (x .at) (p .count) (p .steps)))) e
-      (record { does = subst (λ a. DoesBy kinds out p (x .at) (x .then) a out (Stops (Done (x .at) (p .count) (p .steps)))) (sym d) (refl, refl) })
+module _ (kinds : List ℕ) (how : How) (s out : List ℕ) (p : Progress) (x : Item)
+    (e : x ≡ nextItem kinds how s (p .mode) (p .read)) where
+  pub says-goes : ends (x .said) ≡ false → {out' : List ℕ} {r : Turn}
+      → Does out p (taking kinds (p .steps) (x .at) (x .said) (x .then)) out' r
+      → Does out p (stepAt kinds how s p) out' r
+  says-goes d w = rw (← e, step-taking kinds (p .steps) (x .at) (x .then) (x .said) d) w
 
-  pub says-bad : {n : ℕ} → x .said ≡ Bad n → Does kinds out p (nextItem kinds how s (p .mode) (p .read)) out (Stops (Refused n (x .at)))
-  says-bad {n} d =
-      subst (λ y. Does kinds out p y out (Stops (Refused n (x .at)))) e
-      (record { does = subst (λ a. DoesBy kinds out p (x .at) (x .then) a out (Stops (Refused n (x .at)))) (sym d) refl })
+  pub says-over : x .said ≡ Over → p .count ≤ length out
+      → Does out p (stepAt kinds how s p) out (Stops (Done (x .at) (p .count) (p .steps)))
+  says-over d h = rw (← e, d) (record { does = (Next (p .count), puts-none out (p .count) h, refl) })
+
+  pub says-bad : {n : ℕ} → x .said ≡ Bad n → Does out p (stepAt kinds how s p) out (Stops (Refused n (x .at)))
+  says-bad d = rw (← e, d) (record { does = refl })
 
 -- ---- what is said is given, where it fits
 
@@ -99,103 +101,106 @@ module _ (t : Lists) (room : ℕ) (p j : ℕ) (rest : Scan) (held : List ℕ) (n
 
 -- ---- how far it has come
 
-pub record On (t : Lists) (how : How) (s out₀ : List ℕ) (p : Progress) (out : List ℕ) : Type 0 where
-  pub rest : Scan
-  pub here : Left t how s (p .mode) (p .read) rest
-  pub held : List ℕ
-  pub left : giving t (length out₀) rest held (p .steps) ≡ readBack t (how .«big_endian») s (length out₀)
-  pub bytes : out ≡ splice out₀ 0 held
-  pub count : p .count ≡ length held
-  pub long : length out ≡ length out₀
-  pub used : p .count ≤ length out
-  pub few : p .steps ≤ p .read
-
 abbrev pub left-over : List ℕ → Progress → ℕ
 left-over s p = toRead s (p .mode) (p .read)
 
-abbrev Comes : Lists → How → (s out₀ : List ℕ) → Progress → List ℕ → Turn → Type 0
-Comes t how s out₀ p out (More q) = On t how s out₀ q out × (left-over s q < left-over s p)
-Comes t how s out₀ p out (Stops a) = Fills (readBack t (how .«big_endian») s (length out₀)) out₀ out a
+module _ (kinds : List ℕ) (how : How) (s out₀ : List ℕ) where
+  abbrev t : Lists
+  t = withKinds kinds
 
-module _ {t : Lists} {how : How} {s out₀ : List ℕ} {p : Progress} {out : List ℕ} (o : On t how s out₀ p out) (out' : List ℕ) where
-  abbrev r₀ : ℕ
-  r₀ = rank (p .mode .phase)
+  abbrev whole : Ended
+  whole = readBack t (how .«big_endian») s (length out₀)
 
-  goes-to : (a : Said) (m : Stand) (j : ℕ) → GoesOn t how s r₀ (p .read) (o .rest) j a m → (f : Field) → Lies out (p .count) (saidBytes (t .kinds) a) out' f → Comes t how s out₀ p out' (goneTo m j (p .steps + saidTimes a) f)
-  unfolding toRead
-  goes-to a m j g (Next c) l =
-      let bs = saidBytes (t .kinds) a in
-      let z : 0 + length (o .held) ≡ p .count = omega (arith, o .count) in
-      let fit : length (o .held) + length bs ≤ length out₀ = omega (arith, l .1, l .2, o .count, o .long) in
-      let same : length out' ≡ length out₀ = ap length (l .0) ∙ (length-splice out (p .count) bs (omega (arith, l .1, l .2)) ∙ o .long) in (
+  -- what is left to say, from a place and after so many steps
+  pub record Rest (x : Stand × ℕ) (i : ℕ) (held : List ℕ) : Type 0 where
+    pub rest : Scan
+    pub here : Left t how s (x .0) i rest
+    pub left : giving t (length out₀) rest held (x .1) ≡ whole
+    pub few : x .1 ≤ i
+
+  pub record On (p : Progress) (out : List ℕ) : Type 0 where
+    pub filling : Filling (Rest (p .mode, p .steps) (p .read)) out₀ (p .count) out
+
+  abbrev Comes : Progress → List ℕ → Turn → Type 0
+  Comes p out (More q) = On q out × (left-over s q < left-over s p)
+  Comes p out (Stops a) = Fills whole out₀ out a
+
+  -- by an item, where what is held fits
+  module _ (x : Stand) (k i : ℕ) (held : List ℕ) (w : Rest (x, k) i held) (h : length held ≤ length out₀) where
+    scanned : {sc : Scan} → w .rest ≡ sc → whole ≡ giving t (length out₀) sc held k
+    scanned e = sym (w .left) ∙ ap (λ sc. giving t (length out₀) sc held k) e
+
+    abbrev TakesIt : Step (Stand × ℕ) → Type 0
+    TakesIt g = Takes (λ e. e) whole Rest (λ y j. toRead s (y .0) j) (length out₀) held (toRead s x i) g
+
+    takes-on : (a : Said) (m : Stand) (j : ℕ) → GoesOn t how s (rank (x .phase)) i (w .rest) j a m
+        → TakesIt (taking kinds k j a m)
+    unfolding toRead
+    takes-on a m j g = (
+      λ l. (
         record {
           rest = g .rest;
           here = g .left;
-          held = o .held ++ bs;
-          left = sym (gives-on t (length out₀) (g .place) j (g .rest) (o .held) (p .steps) a fit) ∙ (ap (λ sc. giving t (length out₀) sc (o .held) (p .steps)) (sym (g .scans)) ∙ o .left);
-          bytes = l .0 ∙ rw (o .bytes) (rw z at (splice-splice out₀ 0 (o .held) bs (omega (arith, fit))));
-          count = rw length-append (omega (arith, l .1, o .count));
-          long = same;
-          used = omega (arith, l .2, same, o .long);
-          few = omega (arith, g .ahead, o .few);
+          left = sym (scanned (g .scans) ∙ gives-on t (length out₀) (g .place) j (g .rest) held k a l);
+          few = omega (arith, g .ahead, w .few);
         },
         g .less,
-      )
-  goes-to a m j g Short l =
-      record {
-        says =
-            sym (o .left)
-            ∙ (ap (λ sc. giving t (length out₀) sc (o .held) (p .steps)) (g .scans)
-            ∙ gives-full t (length out₀) (g .place) j (g .rest) (o .held) (p .steps) a (omega (arith, o .count, o .used, o .long)) (omega (arith, l, o .count, o .long)));
-      }
+      ),
+      λ l. scanned (g .scans) ∙ gives-full t (length out₀) (g .place) j (g .rest) held k a h l,
+    )
 
-  takes : (a : Said) (m : Stand) (j : ℕ) → GoesOn t how s r₀ (p .read) (o .rest) j a m → (r : Turn) → Takes (t .kinds) out p j a m out' r → Comes t how s out₀ p out' r
-  takes a m j g r d = subst (Comes t how s out₀ p out') (sym (d .goes)) (goes-to a m j g (d .next) (d .puts .lies))
+    takes : (j : ℕ) (m : Stand) (a : Said) → FollowsBy t how s (rank (x .phase)) i (w .rest) j m a
+        → TakesIt (stepBy kinds k j m a)
+    unfolding giving
+    takes j m Nothing g = takes-on Nothing m j g
+    takes j m (Time u) g = takes-on (Time u) m j g
+    takes j m (Write v id) g = takes-on (Write v id) m j g
+    takes j m StepEnd g = takes-on StepEnd m j g
+    takes j m Over g = (λ l. scanned g ∙ rw (append-nil held), λ l. absurd (omega arith))
+    takes j m (Bad n) g = scanned g
 
-  comes : (j : ℕ) (m : Stand) (a : Said) → FollowsBy t how s r₀ (p .read) (o .rest) j m a → (r : Turn) → DoesBy (t .kinds) out p j m a out' r → Comes t how s out₀ p out' r
-  unfolding giving
-  comes j m Nothing g r d = takes Nothing m j g r d
-  comes j m (Time u) g r d = takes (Time u) m j g r d
-  comes j m (Write v id) g r d = takes (Write v id) m j g r d
-  comes j m StepEnd g r d = takes StepEnd m j g r d
-  comes j m Over g r d =
-      subst (Comes t how s out₀ p out') (sym (d .1))
-      (record { says = (o .held, sym (o .left) ∙ ap (λ sc. giving t (length out₀) sc (o .held) (p .steps)) g, d .0 ∙ o .bytes, o .count, omega (arith, o .used, o .long)) })
-  comes j m (Bad n) g r d = subst (Comes t how s out₀ p out') (sym d) (record { says = sym (o .left) ∙ ap (λ sc. giving t (length out₀) sc (o .held) (p .steps)) g })
-
-  came : (r : Turn) → Does (t .kinds) out p (nextItem (t .kinds) how s (p .mode) (p .read)) out' r → Comes t how s out₀ p out' r
-  came r d =
-      let x = nextItem (t .kinds) how s (p .mode) (p .read) in
-      comes (x .at) (x .then) (x .said) (item-follows t how s (p .mode) (p .read) (o .here)) r (d .does)
-
-pub on-start : (t : Lists) (how : How) (s out : List ℕ) (x : Stand) → x ≡ standing Mark 0 0 → On t how s out (record { mode = x; read = 0; count = 0; steps = 0 }) out
+pub on-start : (kinds : List ℕ) (how : How) (s out : List ℕ) (x : Stand) → x ≡ standing Mark 0 0
+    → On kinds how s out (record { mode = x; read = 0; count = 0; steps = 0 }) out
 unfolding readBack
-on-start t how s out x e =
-    subst (λ x. On t how s out (record { mode = x; read = 0; count = 0; steps = 0 }) out) (sym e)
-    (record { rest = _; here = left-all t how s; held = []; left = refl; bytes = splice-nil out 0; count = refl; long = refl; used = omega arith; few = omega arith })
+on-start kinds how s out x e =
+    let r : Rest kinds how s out (x, 0) 0 [] =
+    rw e (record { rest = _; here = left-all (withKinds kinds) how s; left = refl; few = omega arith }) in
+    record { filling = filling-start out r }
 
-module _ {kinds : List ℕ} {how : How} {s out₀ : List ℕ} {p : Progress} {out : List ℕ} (o : On (withKinds kinds) how s out₀ p out) where
+module _ {kinds : List ℕ} {how : How} {s out₀ : List ℕ} {p : Progress} {out : List ℕ}
+    (o : On kinds how s out₀ p out) where
   pub on-ready : Ready kinds s p out
-  on-ready = record { stood = o .here .stood; within = o .here .inside; used = o .used; few = o .few }
+  on-ready =
+      let w = o .filling .left in
+      record { stood = w .here .stood; within = w .here .inside; used = filling-used (o .filling); few = w .few }
 
-  module _ {out' : List ℕ} {r : Turn} (d : Does kinds out p (nextItem kinds how s (p .mode) (p .read)) out' r) where
-    pub on-more : {q : Progress} → r ≡ More q → On (withKinds kinds) how s out₀ q out'
-    on-more e = subst (Comes (withKinds kinds) how s out₀ p out') e (came o out' r d) .0
+  module _ {out' : List ℕ} {r : Turn} (d : Does out p (stepAt kinds how s p) out' r) where
+    came : Comes kinds how s out₀ p out' r
+    came =
+        let f = o .filling in
+        let x = nextItem kinds how s (p .mode) (p .read) in
+        let by = item-follows (withKinds kinds) how s (p .mode) (p .read) (f .left .here) in
+        filling-step f going Stops (Comes kinds how s out₀ p out') (λ y j c q l. (record { filling = q }, l))
+        (λ e a w q. rw w q) (stepAt kinds how s p)
+        (takes kinds how s out₀ (p .mode) (p .steps) (p .read) (f .held) (f .left) (filling-inside f) (x .at) (x .then)
+        (x .said) by) r (d .does)
+
+    pub on-more : {q : Progress} → r ≡ More q → On kinds how s out₀ q out'
+    on-more e = subst (Comes kinds how s out₀ p out') e came .0
 
     pub on-less : {q : Progress} → r ≡ More q → left-over s q < left-over s p
-    on-less e = subst (Comes (withKinds kinds) how s out₀ p out') e (came o out' r d) .1
+    on-less e = subst (Comes kinds how s out₀ p out') e came .1
 
-    stopped : {a : Written} → r ≡ Stops a → Fills (readBack (withKinds kinds) (how .«big_endian») s (length out₀)) out₀ out' a
-    stopped e = subst (Comes (withKinds kinds) how s out₀ p out') e (came o out' r d)
+    stopped : {a : Written} → r ≡ Stops a → Fills (whole kinds how s out₀) out₀ out' a
+    stopped e = subst (Comes kinds how s out₀ p out') e came
 
 abbrev by-flag : Bool → How
 by-flag flag = record { «big_endian» = flag }
 
-pub on-over : {kinds : List ℕ} {flag : Bool} {s out₀ : List ℕ} {p : Progress} {out : List ℕ} → On (withKinds kinds) (by-flag flag) s out₀ p out
-    → {out' : List ℕ} {r : Turn} → Does kinds out p (nextItem kinds (by-flag flag) s (p .mode) (p .read)) out' r → {a : Written} → r ≡ Stops a → Fills (readBack (withKinds kinds) flag s (length out₀)) out₀ out' a
+pub on-over : {kinds : List ℕ} {flag : Bool} {s out₀ : List ℕ} {p : Progress} {out : List ℕ}
+    → On kinds (by-flag flag) s out₀ p out → {out' : List ℕ} {r : Turn}
+    → Does out p (stepAt kinds (by-flag flag) s p) out' r
+    → {a : Written} → r ≡ Stops a → Fills (readBack (withKinds kinds) flag s (length out₀)) out₀ out' a
 on-over o d e = stopped o d e
-
-abbrev pub OnKinds : (kinds : List ℕ) → How → (s out₀ : List ℕ) → Progress → List ℕ → Type 0
-OnKinds kinds how s out₀ p out = On (withKinds kinds) how s out₀ p out
 
 pub ruleset loop-laws = (on-start, on-ready, on-more, on-less, on-over)

@@ -1,10 +1,10 @@
 -- What the proofs search of the code that writes change records: their bytes, and one item.
 -- Assumes nothing.
 use mathlib.Core.Path.{_≡_, refl, sym, ap, subst, _∙_}
-use Prim.Native.Nat.{ℕ, zero, suc, _+_, _-_, _/_, _%_, _^_, _≤_, _<_}
+use Prim.Native.Nat.{ℕ, zero, suc, _+_, _/_, _%_, _^_, _≤_, _<_}
 use mathlib.Core.Bool.{Bool, true, false, cond, false≢true}
 use mathlib.Core.List.{List, [], _∷_}
-use native.Mathlib.Nat.{add-zero, div-add-mod'}
+use native.Mathlib.Nat.{div-add-mod'}
 use native.Mathlib.Omega.{arith}
 use borrow.Author.Tests.{le-leb, lt-leb}
 use lib.ListN.{length, getD}
@@ -12,7 +12,7 @@ use lib.Dec.{leb}
 use mir.Val.{Fits}
 use mir.Syntax.{w8, w32}
 use Rattle.slices.specs.Splice.{splice}
-use Rattle.slices.specs.Splice.Laws.{splice-nil, splice-all}
+use Rattle.slices.specs.Splice.Laws.{splice-all}
 use Rattle.slices.specs.Field.{fieldOf}
 use Rattle.slices.specs.declared.Field.{Field}
 use Rattle.slices.specs.declared.Field.the-variants.{Next, Short}
@@ -27,10 +27,13 @@ use Rattle.section_heads.specs.declared.Stand.{Stand}
 use Rattle.section_heads.specs.declared.Said.{Said}
 use Rattle.section_heads.specs.declared.Said.the-variants.{Nothing, Time, Write, StepEnd, Over, Bad}
 use Rattle.section_heads.specs.declared.Item.{Item}
+use Rattle.filling.specs.Filling.{puts-none}
+use Rattle.filling.specs.Filling.Steps as step
+use Rattle.filling.specs.Filling.Steps.{Step, DoesBy}
 use Rattle.read_back.specs.declared.Progress.{Progress}
 use Rattle.read_back.specs.declared.Turn.{Turn}
 use Rattle.read_back.specs.declared.Turn.the-variants.{More, Stops}
-use Rattle.written.specs.declared.Written.the-variants.{Done, Refused}
+use Rattle.written.specs.declared.Written.the-variants.{Refused}
 use Rattle.read_back.specs.ReadBack.{unmapped, byteOf, writeOf}
 use Rattle.sections.specs.Item.Code.{IdOf}
 use Rattle.sections.specs.Item.Scans.{saidTimes, ends, Sound}
@@ -163,7 +166,7 @@ pub record Sounds (kinds : List ℕ) (a : Said) : Type 0 where
   pub sound : Sound kinds a
 
 pub said-nothing : (kinds : List ℕ) (a : Said) (out : List ℕ) (at : ℕ) → saidBytes kinds a ≡ [] → at ≤ length out → Puts out at (saidBytes kinds a) out (Next at)
-said-nothing kinds a out at e h = rw e (record { lies = (splice-nil out at, sym (add-zero at), h) })
+said-nothing kinds a out at e h = rw e (puts-none out at h)
 
 module _ (kinds : List ℕ) {a : Said} {out : List ℕ} {at : ℕ} where
   module _ {out' : List ℕ} {f : Field} where
@@ -197,48 +200,52 @@ pub ruleset times-laws = (times-time)
 
 -- ---- one item
 
--- after the bytes of an item
-abbrev pub goneTo : Stand → (j steps : ℕ) → Field → Turn
-goneTo m j steps (Next c) = More (record { mode = m; read = j; count = c; steps = steps })
-goneTo m j steps Short = Stops (Refused 16 j)
+abbrev pub going : Stand × ℕ → (read count : ℕ) → Turn
+going (m, k) j c = More (record { mode = m; read = j; count = c; steps = k })
 
--- what is said is put, or it does not fit
-pub record Takes (kinds out : List ℕ) (p : Progress) (j : ℕ) (a : Said) (m : Stand) (out' : List ℕ) (r : Turn) : Type 0 where
-  pub next : Field
-  pub puts : Puts out (p .count) (saidBytes kinds a) out' next
-  pub goes : r ≡ goneTo m j (p .steps + saidTimes a) next
+-- what an item gives that says something, or nothing, after `k` steps: its record
+abbrev pub taking : List ℕ → (k j : ℕ) → Said → Stand → Step (Stand × ℕ)
+taking kinds k j a m = step.goes (saidBytes kinds a) (m, k + saidTimes a) j
 
-abbrev pub DoesBy : List ℕ → List ℕ → Progress → ℕ → Stand → Said → List ℕ → Turn → Type 0
-DoesBy kinds out p j m Nothing out' r = Takes kinds out p j Nothing m out' r
-DoesBy kinds out p j m (Time u) out' r = Takes kinds out p j (Time u) m out' r
-DoesBy kinds out p j m (Write v id) out' r = Takes kinds out p j (Write v id) m out' r
-DoesBy kinds out p j m StepEnd out' r = Takes kinds out p j StepEnd m out' r
-DoesBy kinds out p j m Over out' r = (out' ≡ out) × (r ≡ Stops (Done j (p .count) (p .steps)))
-DoesBy kinds out p j m (Bad n) out' r = r ≡ Stops (Refused n j)
+-- what any item gives
+abbrev pub stepBy : List ℕ → (k j : ℕ) → Stand → Said → Step (Stand × ℕ)
+stepBy kinds k j m Nothing = taking kinds k j Nothing m
+stepBy kinds k j m (Time u) = taking kinds k j (Time u) m
+stepBy kinds k j m (Write v id) = taking kinds k j (Write v id) m
+stepBy kinds k j m StepEnd = taking kinds k j StepEnd m
+stepBy kinds k j m Over = step.ends [] j k
+stepBy kinds k j m (Bad n) = step.stops n j
 
--- an item's record is put, or it does not fit; or the input is over, or refused
-pub record Does (kinds out : List ℕ) (p : Progress) (x : Item) (out' : List ℕ) (r : Turn) : Type 0 where
-  pub does : DoesBy kinds out p (x .at) (x .then) (x .said) out' r
+abbrev pub stepOf : List ℕ → ℕ → Item → Step (Stand × ℕ)
+stepOf kinds k x = stepBy kinds k (x .at) (x .then) (x .said)
 
-pub does-take : {kinds out : List ℕ} {p : Progress} {j : ℕ} {m : Stand} {out' : List ℕ} {r : Turn} (a : Said) → ends a ≡ false → Takes kinds out p j a m out' r → DoesBy kinds out p j m a out' r
-does-take Nothing e f = f
-does-take (Time u) e f = f
-does-take (Write v id) e f = f
-does-take StepEnd e f = f
-does-take Over e f = absurd (false≢true (sym e))
-does-take (Bad n) e f = absurd (false≢true (sym e))
+-- what an item gives is put, or it does not fit; or the input is over, or refused
+pub record Does (out : List ℕ) (p : Progress) (g : Step (Stand × ℕ)) (out' : List ℕ) (r : Turn) : Type 0 where
+  pub does : DoesBy going Stops out (p .count) g out' r
+
+pub step-taking : (kinds : List ℕ) (k j : ℕ) (m : Stand) (a : Said) → ends a ≡ false
+    → stepBy kinds k j m a ≡ taking kinds k j a m
+step-taking kinds k j m Nothing e = refl
+step-taking kinds k j m (Time u) e = refl
+step-taking kinds k j m (Write v id) e = refl
+step-taking kinds k j m StepEnd e = refl
+step-taking kinds k j m Over e = absurd (false≢true (sym e))
+step-taking kinds k j m (Bad n) e = absurd (false≢true (sym e))
 
 -- the steps so far, and those of an item, are at most the bytes read
 pub record Counts (p : Progress) (a : Said) (j : ℕ) : Type 0 where
   pub few : p .steps + saidTimes a ≤ j
   pub more : p .steps ≤ j
 
-module _ (kinds out : List ℕ) (p : Progress) (a : Said) (m : Stand) (j : ℕ) {out' : List ℕ} {f : Field} (q : Puts out (p .count) (saidBytes kinds a) out' f) where
-  pub does-short : f ≡ Short → Takes kinds out p j a m out' (Stops (Refused 16 j))
-  does-short e = record { next = f; puts = q; goes = rw e }
+module _ (kinds out : List ℕ) (p : Progress) (a : Said) (m : Stand) (j : ℕ) {out' : List ℕ} {f : Field}
+    (q : Puts out (p .count) (saidBytes kinds a) out' f) where
+  pub does-short : f ≡ Short → Does out p (taking kinds (p .steps) j a m) out' (Stops (Refused 16 j))
+  does-short e = record { does = (f, q, rw e) }
 
-  pub does-more : {c : ℕ} → f ≡ Next c → {k : ℕ} → k ≡ saidTimes a → Takes kinds out p j a m out' (More (record { mode = m; read = j; count = c; steps = p .steps + k }))
-  does-more e z = record { next = f; puts = q; goes = rw (e, z) }
+  pub does-more : {c : ℕ} → f ≡ Next c → {k : ℕ} → k ≡ saidTimes a
+      → Does out p (taking kinds (p .steps) j a m) out'
+      (More (record { mode = m; read = j; count = c; steps = p .steps + k }))
+  does-more e z = record { does = (f, q, rw (e, z)) }
 
 pub steps-fit : (p : Progress) (a : Said) (j : ℕ) → Counts p a j → {k : ℕ} → k ≡ saidTimes a → j < 2 ^ 64 → p .steps + k < 2 ^ 64
 steps-fit p a j w e h = omega (arith, w .few)

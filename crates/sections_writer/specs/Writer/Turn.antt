@@ -1,15 +1,13 @@
 -- What the proofs of the writer's pieces search: bytes put, and one record.
 -- Assumes nothing.
 use mathlib.Core.Path.{_≡_, refl, sym, _∙_}
-use Prim.Native.Nat.{ℕ, _+_, _-_, _^_, _≤_, _<_}
+use Prim.Native.Nat.{ℕ, _-_, _^_, _≤_, _<_}
 use mathlib.Core.Bool.{Bool, true, false, _&&_}
 use mathlib.Core.List.{List, [], _∷_, _++_}
-use native.Mathlib.Nat.{add-zero}
 use native.Mathlib.Omega.{arith}
 use borrow.Author.Tests.{lt-ltb, le-ltb, le-leb, lt-leb, leb-true, eq-eqb, ne-eqb}
 use lib.ListN.{length, getD, replicate}
 use lib.Dec.{leb}
-use Rattle.slices.specs.Splice.Laws.{splice-nil}
 use Rattle.slices.specs.Field.{fieldOf}
 use Rattle.slices.specs.declared.Field.{Field}
 use Rattle.slices.specs.declared.Field.the-variants.{Next, Short}
@@ -18,6 +16,9 @@ use Rattle.written.specs.Put.{afterPut, Puts, puts-one, puts-short, puts-more}
 use Rattle.written.specs.Shortest.{unsignedBytes, signedBytes}
 use Rattle.written.specs.Little.{littleBytes, fixedBytes}
 use Rattle.written.specs.Little.Laws.{length-littleBytes, length-fixedBytes}
+use Rattle.filling.specs.Filling.{puts-none}
+use Rattle.filling.specs.Filling.Steps as step
+use Rattle.filling.specs.Filling.Steps.{Step, landed, DoesBy}
 use Rattle.sections_writer.specs.declared.Pen.{Pen}
 use Rattle.sections_writer.specs.declared.Progress.{Progress}
 use Rattle.sections_writer.specs.declared.Turn.{Turn}
@@ -147,7 +148,7 @@ pub ruleset write-laws = (puts-one, write-short, write-more)
 module _ (p : Pen) {out : List ℕ} {at : ℕ} where
   pub cycle-none : p .steps ≡ 0 → at ≤ length out → Puts out at (cycleEnd p) out (Next at)
   unfolding cycleEnd
-  cycle-none e h = rw e (record { lies = (splice-nil out at, sym (add-zero at), h) })
+  cycle-none e h = rw e (puts-none out at h)
 
   module _ (n : p .steps ≡ 0 → ⊥) {out₁ : List ℕ} {f : Field} (d : f ≡ fieldOf (length (signedBytes 0xffff_ffff_ffff_ffff)) out at) (e : out₁ ≡ afterPut out at (signedBytes 0xffff_ffff_ffff_ffff)) where
     pub cycle-short : f ≡ Short → Puts out at (cycleEnd p) out₁ Short
@@ -173,24 +174,22 @@ pub ruleset closing-laws = (closing-short, closing-more)
 
 -- ---- one record
 
+-- what a record gives, as a step of a definition that fills an output
+abbrev pub stepOf : Pen → Given → Step Pen
+stepOf p (goes bs q j) = step.goes bs q j
+stepOf p (ends bs j) = step.ends bs j (p .steps)
+stepOf p (stops n q) = step.stops n q
+
+abbrev pub going : Pen → (read count : ℕ) → Turn
+going q j c = More (record { pen = q; read = j; count = c })
+
 -- after a record's bytes
 abbrev pub goneTo : Pen → ℕ → Field → Turn
-goneTo q j (Next c) = More (record { pen = q; read = j; count = c })
-goneTo q j Short = Over (Refused 16 j)
-
--- .. and after the last ones
-abbrev pub endedAt : ℕ → ℕ → Field → Turn
-endedAt steps j (Next c) = Over (Done j c steps)
-endedAt steps j Short = Over (Refused 16 j)
-
-abbrev pub DoesBy : List ℕ → Progress → Given → List ℕ → Turn → Type 0
-DoesBy out p (goes bs q j) out' r = (f : Field) × Puts out (p .count) bs out' f × (r ≡ goneTo q j f)
-DoesBy out p (ends bs j) out' r = (f : Field) × Puts out (p .count) bs out' f × (r ≡ endedAt (p .pen .steps) j f)
-DoesBy out p (stops n q) out' r = r ≡ Over (Refused n q)
+goneTo q j f = landed (going q j) (Over (Refused 16 j)) f
 
 -- what a record gives is put, or it does not fit, or it is refused
 pub record Does (out : List ℕ) (p : Progress) (g : Given) (out' : List ℕ) (r : Turn) : Type 0 where
-  pub does : DoesBy out p g out' r
+  pub does : DoesBy going Over out (p .count) (stepOf (p .pen) g) out' r
 
 module _ (q : Pen) (j : ℕ) {f : Field} where
   pub gone-next : {c : ℕ} → f ≡ Next c → More (record { pen = q; read = j; count = c }) ≡ goneTo q j f
