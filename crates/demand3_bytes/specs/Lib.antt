@@ -1,0 +1,6 @@
+-- Assumes nothing.
+pub mod Statements
+pub mod Own
+pub mod Trace
+pub mod Bits
+pub mod Stored
