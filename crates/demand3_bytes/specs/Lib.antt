@@ -4,3 +4,5 @@ pub mod Own
 pub mod Trace
 pub mod Bits
 pub mod Stored
+pub mod Causes
+pub mod Sentences

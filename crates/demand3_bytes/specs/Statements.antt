@@ -171,8 +171,14 @@ pub record ByRewrite (t : Tables) (v : ℕ) (a b : List Moment) : Type 0 where
   pub waits : Waits t v a (bitOf t v id) y
   pub differs : y ≢ x
 
--- (c) the test of the width passes, "and every bit is marked"
+-- (c) with a write of the vector, the test of the width passes "and every bit is marked"
 pub record ByCompletion (early : ℕ → Bool) (t : Tables) (v : ℕ) (a : List Moment) : Type 0 where
+  pub id : ℕ
+  pub x : ℕ
+  pub pos : ℕ
+  pub before : List Moment
+  pub last : a ≡ before ++ said (write id x pos) ∷ []
+  pub vector : t .vector id ≡ suc v
   pub acts : T (early (width t v))
   pub every : (k : ℕ) → k < width t v → (x : ℕ) × Waits t v a k x
 

@@ -115,8 +115,7 @@ module _ (t : Lists) (v : ℕ) where
   -- .. and back
   pub waits-own : (h : List Happening) → Named (gathers t) h → (k x : ℕ) → Waits (gathers t) v (trace t 0 h) k x → (w : Write) × histories.Waits w (own v h) × (w .bit ≡ k) × (w .value ≡ x)
   waits-own h n k x q =
-      let o = at-write t h n v (q .before) (q .id) x (q .pos) (q .since) (q .split) (q .vector) in
-      (
+      let o = at-write t h n v (q .before) (q .id) x (q .pos) (q .since) (q .split) (q .vector) in (
         o .write,
         (
           own v (o .before),
