@@ -6,3 +6,5 @@ pub mod Bits
 pub mod Stored
 pub mod Causes
 pub mod Sentences
+pub mod Tells
+pub mod Whole

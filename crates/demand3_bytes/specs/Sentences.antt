@@ -107,10 +107,10 @@ module _ (early : ℕ → Bool) (t : Lists) (good : Good (gathers t)) (acts : Li
   abbrev pub happened : List Happening
   happened = happens early (gathers t) (begin (gathers t)) acts
 
-  abbrev tables : Tables
+  abbrev pub tables : Tables
   tables = gathers t
 
-  all-named : Named tables happened
+  pub all-named : Named tables happened
   all-named = named tables good happened acts (nothing-lost early tables (begin tables) acts)
 
   all-prompt : Prompt none happened
@@ -128,7 +128,7 @@ module _ (early : ℕ → Bool) (t : Lists) (good : Good (gathers t)) (acts : Li
   named-before : (a b : List Happening) → happened ≡ a ++ b → Named tables a
   named-before a b e = named-append tables a b (rw e at all-named) .0
 
-  named-behind : (a b : List Happening) → happened ≡ a ++ b → Named tables b
+  pub named-behind : (a b : List Happening) → happened ≡ a ++ b → Named tables b
   named-behind a b e = named-append tables a b (rw e at all-named) .1
 
   -- ---- who owns what

@@ -4,7 +4,7 @@
 use Prim.Native.Nat.{ℕ, suc, _-_, _*_, _%_, _^_, _≤_, _<_}
 use mathlib.Core.Path.{_≡_}
 use mathlib.Core.Logic.{_≢_, _⊎_}
-use mathlib.Core.Bool.{Bool, true, false, _&&_}
+use mathlib.Core.Bool.{Bool, true, false, cond, _&&_, _||_}
 use mathlib.Core.List.{List, [], _∷_, _++_}
 use lib.ListN.{length, getD}
 use lib.Dec.{eqb, T}
@@ -85,6 +85,11 @@ pub record Shows (t : Lists) (v w : ℕ) (values : List ℕ) (r : Labelled) (l :
   pub unused : (k : ℕ) → w ≤ k → k < perByte (stateIn t v) * bytesRequired (stateIn t v) w → shows values r k ≡ 0
 
 -- ---- (a) and (b): one vector's records are the events of its history
+
+-- one vector's part of the output: the time records, and the records labelled with it
+unfoldable pub partOf : ℕ → List Labelled → List Labelled
+partOf v [] = []
+partOf v (r ∷ rs) = cond (isTime (recordAt (r .bytes) 0) || eqb (r .label) (suc v)) (r ∷ partOf v rs) (partOf v rs)
 
 -- these records are the times and the events of a history, in order, and show what those show
 unfoldable pub Tells : Lists → (v w : ℕ) → List ℕ → List Item → List Labelled → Type 0

@@ -184,7 +184,7 @@ time-not-end : {u : ℕ} → said (time u) ≡ said stepEnd → ⊥
 time-not-end e = let z : _≡_ {A = ℕ} 0 1 = cc in omega arith
 
 -- value and real records are no times
-value-no-time : (st : States) (reference start n : ℕ) → isTime (recordAt (recordBytes (Value st reference start n)) 0) ≡ false
+pub value-no-time : (st : States) (reference start n : ℕ) → isTime (recordAt (recordBytes (Value st reference start n)) 0) ≡ false
 unfolding recordBytes recordAt isTime
 value-no-time Two reference start n = refl
 value-no-time Nine reference start n = refl
@@ -193,7 +193,7 @@ real-no-time : (reference b : ℕ) → isTime (recordAt (recordBytes (Real refer
 unfolding recordBytes recordAt isTime
 real-no-time reference b = refl
 
-alone-no-time : (s kind reference x : ℕ) → isTime (recordAt (recordBytes (recordOf s (alone kind reference x))) 0) ≡ false
+pub alone-no-time : (s kind reference x : ℕ) → isTime (recordAt (recordBytes (recordOf s (alone kind reference x))) 0) ≡ false
 unfolding alone recordOf
 alone-no-time s kind reference x =
     let P : Event → Type 0 = λ e. isTime (recordAt (recordBytes (recordOf s e)) 0) ≡ false in
