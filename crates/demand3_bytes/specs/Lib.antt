@@ -8,3 +8,4 @@ pub mod Causes
 pub mod Sentences
 pub mod Tells
 pub mod Whole
+pub mod Readings

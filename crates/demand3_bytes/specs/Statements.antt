@@ -6,19 +6,22 @@ use mathlib.Core.Path.{_≡_}
 use mathlib.Core.Logic.{_≢_, _⊎_}
 use mathlib.Core.Bool.{Bool, true, false, cond, _&&_, _||_}
 use mathlib.Core.List.{List, [], _∷_, _++_}
-use lib.ListN.{length, getD}
+use lib.ListN.{length, getD, take}
 use lib.Dec.{eqb, T}
 use Rattle.states.specs.declared.States.{States}
 use Rattle.states.specs.Kind.{bits, perByte, bytesRequired, stateOf}
 use Rattle.states.specs.Packed.{fieldAt, valuePlace}
 use Rattle.tables.specs.Lists.{Lists}
-use Rattle.rules.specs.Vector.{Item, began, wrote, shown, over}
+use Rattle.rules.specs.Vector.{Item, began, wrote, shown, over, actsEarly}
 use Rattle.rules.specs.Gather.{Tables, width, Act, time, write, stepEnd}
+use Rattle.rules.specs.Steps.Owned.{historyOf}
 use Rattle.records.specs.declared.Record.{Record}
 use Rattle.records.specs.declared.Record.the-variants.{Time, Value, Real}
 use Rattle.records.specs.Event.{Event, value, real, recordBytes}
 use Rattle.records.specs.Event as events
 use Rattle.records.specs.Stream.{eventLength, recordAt, isTime}
+use Rattle.gather.specs.Run.{gathers}
+use Rattle.answers.specs.Outcome.{Left}
 
 -- ---- labelled records
 
@@ -234,3 +237,16 @@ pub record Demand3 (early : ℕ → Bool) (t : Tables) (acts : List Act) (values
   pub input : saidIn order ≡ acts
   pub output : madeIn order ≡ rs
   pub sentences : Sentences early t values order
+
+-- ---- an accepted reading
+
+-- `acts` is what the input says, `es` are the events that the gathering rules make of it, x is what the call leaves
+pub record OnBytes (t : Lists) (acts : List Act) (es : List Event) (x : Left) : Type 0 where
+  -- the reported event bytes are records
+  pub records : (rs : List Labelled) × RecordsOf (take (x .answer .events) (x .events)) es rs
+  -- (a), (b): "the events labelled with the vector" are those of its history, each behind the time of its step
+  pub history : (rs : List Labelled) → RecordsOf (take (x .answer .events) (x .events)) es rs → (v : ℕ)
+      → Tells t v (width (gathers t) v) (x .values) (historyOf actsEarly (gathers t) acts v) (partOf v rs)
+  -- (c)
+  pub demand3 : (rs : List Labelled) → RecordsOf (take (x .answer .events) (x .events)) es rs
+      → Demand3 actsEarly (gathers t) acts (x .values) rs
