@@ -8,4 +8,5 @@ pub mod Causes
 pub mod Sentences
 pub mod Tells
 pub mod Whole
+pub mod Suited
 pub mod Readings

@@ -36,7 +36,7 @@ use Rattle.demand3_bytes.specs.Whole.{has-records, records-are}
 
 -- whatever scans the input
 module _ (t : Lists) (input : ℕ) (l : Lent) (sc : Scan) (x : Left) (d1 : Demand1 t input l x) (d2 : Demand2 t input l sc x) (d3 : whole.Demand3 actsEarly (gathers t) (acts sc))
-    (ok : x .answer .number ≡ 0) (fits : Fitting t (acts sc)) where
+    (ok : x .answer .number ≡ 0) (nine : Fitting t 1 (acts sc)) (two : Fitting t 3 (acts sc)) where
   abbrev all : List Happening
   all = happens actsEarly (gathers t) (begin (gathers t)) (acts sc)
 
@@ -57,7 +57,7 @@ module _ (t : Lists) (input : ℕ) (l : Lent) (sc : Scan) (x : Left) (d1 : Deman
   tables-good = gathers-good t input (l .events) (l .values) (l .room) (l .list) passed
 
   small : (v : ℕ) → SmallItems (2 ^ bits (stateIn t v)) (own v all)
-  small v = let g = good t input (l .events) (l .values) (l .room) (l .list) passed in shown-small t (g .sized) (g .signals) actsEarly (acts sc) fits v
+  small v = let g = good t input (l .events) (l .values) (l .room) (l .list) passed in shown-small t (g .sized) (g .signals) actsEarly (acts sc) nine two v
 
   rest : List ℕ
   rest = drop (x .answer .values) (x .values)

@@ -1,4 +1,4 @@
--- Every value that a vector stores fits its field, where every value that is written suits its signal's kind.
+-- Every value that a vector stores fits its field, where every value that is written to a signal of kind 1 or 3 is in its range.
 -- Assumes nothing.
 use Prim.Native.Nat.{ℕ, zero, suc, _-_, _^_, _≤_, _<_}
 use mathlib.Core.Path.{_≡_, refl, sym, ap, _∙_}
@@ -16,7 +16,7 @@ use Rattle.states.specs.Kind.{bits, stateOf}
 use Rattle.states.specs.Packed.Bytes.{getD-past}
 use Rattle.tables.specs.Lists.{Lists, nth}
 use Rattle.tables.specs.Good.{Sized, Signals, Bit}
-use Rattle.values.specs.Value.{mostOf, Suits}
+use Rattle.values.specs.Value.{mostOf}
 use Rattle.rules.specs.Vector.{Write, Op, start, put, stop, Cause, rewritten, complete, ended, Item, began, wrote, shown, over, Vec, all, any, fresh, cleared, fires, clashes, stored, act, history}
 use Rattle.rules.specs.Gather.{Tables, width, Act, time, write, stepEnd, begin, bitWrite, happens, own, told}
 use Rattle.rules.specs.Gather.Own.{told-nil, told-time, told-write, told-stop, own-history}
@@ -92,18 +92,18 @@ module _ (m : ℕ) where
 
 -- ---- the tables
 
--- every value that is written suits its signal's kind
-unfoldable pub Fitting : Lists → List Act → Type 0
-Fitting t [] = Unit {0}
-Fitting t (time u ∷ acts) = Fitting t acts
-Fitting t (write i x p ∷ acts) = Suits (nth (t .kinds) i) x × Fitting t acts
-Fitting t (stepEnd ∷ acts) = Fitting t acts
+-- every value that is written to a signal of this kind is in the kind's range
+unfoldable pub Fitting : Lists → ℕ → List Act → Type 0
+Fitting t kind [] = Unit {0}
+Fitting t kind (time u ∷ acts) = Fitting t kind acts
+Fitting t kind (write i x p ∷ acts) = (nth (t .kinds) i ≡ kind → x ≤ mostOf kind) × Fitting t kind acts
+Fitting t kind (stepEnd ∷ acts) = Fitting t kind acts
 
 module _ (t : Lists) (z : Sized t) (g : Signals t) where
-  -- kinds 1 and 3 name a vector of their state; no other kind names one
-  bit-fits : (i v x : ℕ) → i < length (t .kinds) → getD (t .vecs) i 0 ≡ suc v → Suits (getD (t .kinds) i 0) x → x < 2 ^ bits (stateIn t v)
+  -- "kinds 1 and 3 name a vector .. whose state matches"; no other kind names one
+  bit-fits : (i v x : ℕ) → i < length (t .kinds) → getD (t .vecs) i 0 ≡ suc v → (getD (t .kinds) i 0 ≡ 1 → x ≤ mostOf 1) → (getD (t .kinds) i 0 ≡ 3 → x ≤ mostOf 3) → x < 2 ^ bits (stateIn t v)
   unfolding mostOf
-  bit-fits i v x h e s = go (ℕ-discrete (getD (t .kinds) i 0) 1) (ℕ-discrete (getD (t .kinds) i 0) 3)
+  bit-fits i v x h e one three = go (ℕ-discrete (getD (t .kinds) i 0) 1) (ℕ-discrete (getD (t .kinds) i 0) 3)
     where
       less : getD (t .vecs) i 0 - 1 ≡ v
       less = omega arith
@@ -112,28 +112,29 @@ module _ (t : Lists) (z : Sized t) (g : Signals t) where
       state b = rw less at (b .matches)
 
       go : Dec (getD (t .kinds) i 0 ≡ 1) → Dec (getD (t .kinds) i 0 ≡ 3) → x < 2 ^ bits (stateIn t v)
-      go (yes k) o = let m : x ≤ 8 = rw k at (s (omega arith)) in rw (state (g .nine i h k)) (omega arith)
-      go (no n) (yes k) = let m : x ≤ 1 = rw k at (s (omega arith)) in rw (state (g .two i h k)) (omega arith)
+      go (yes k) o = let m : x ≤ 8 = one k in rw (state (g .nine i h k)) (omega arith)
+      go (no n) (yes k) = let m : x ≤ 1 = three k in rw (state (g .two i h k)) (omega arith)
       go (no n) (no o) = absurd (omega (arith, g .alone i h n o))
 
-  field-fits : (i v x : ℕ) → nth (t .vecs) i ≡ suc v → Suits (nth (t .kinds) i) x → x < 2 ^ bits (stateIn t v)
+  field-fits : (i v x : ℕ) → nth (t .vecs) i ≡ suc v → (nth (t .kinds) i ≡ 1 → x ≤ mostOf 1) → (nth (t .kinds) i ≡ 3 → x ≤ mostOf 3) → x < 2 ^ bits (stateIn t v)
   unfolding nth
-  field-fits zero v x e s = absurd (omega arith)
-  field-fits (suc i) v x e s =
-      ⊎-elim (λ (o : length (t .kinds) ≤ i). absurd (omega (arith, getD-past (t .vecs) i (rw (z .vecs-long) o)))) (λ (o : i < length (t .kinds)). bit-fits i v x o e s) (le-or-lt (length (t .kinds)) i)
+  field-fits zero v x e one three = absurd (omega arith)
+  field-fits (suc i) v x e one three =
+      ⊎-elim (λ (o : length (t .kinds) ≤ i). absurd (omega (arith, getD-past (t .vecs) i (rw (z .vecs-long) o)))) (λ (o : i < length (t .kinds)). bit-fits i v x o e one three) (le-or-lt (length (t .kinds)) i)
 
-  told-small : (v : ℕ) (acts : List Act) → Fitting t acts → SmallOps (2 ^ bits (stateIn t v)) (told (gathers t) v acts)
+  told-small : (v : ℕ) (acts : List Act) → Fitting t 1 acts → Fitting t 3 acts → SmallOps (2 ^ bits (stateIn t v)) (told (gathers t) v acts)
   unfolding Fitting SmallOps gathers bitWrite
-  told-small v [] f = rw told-nil tt
-  told-small v (time u ∷ acts) f = rw told-time (told-small v acts f)
-  told-small v (write i x p ∷ acts) f =
+  told-small v [] f q = rw told-nil tt
+  told-small v (time u ∷ acts) f q = rw told-time (told-small v acts f q)
+  told-small v (write i x p ∷ acts) f q =
       rw told-write
       (cond-ind (eqb (nth (t .vecs) i) (suc v)) _ _ (SmallOps (2 ^ bits (stateIn t v)))
-      (λ q. (field-fits i v x (eqb-true _ _ q) (f .0), told-small v acts (f .1)))
-      (λ q. told-small v acts (f .1)))
-  told-small v (stepEnd ∷ acts) f = rw told-stop (told-small v acts f)
+      (λ e. (field-fits i v x (eqb-true _ _ e) (f .0) (q .0), told-small v acts (f .1) (q .1)))
+      (λ e. told-small v acts (f .1) (q .1)))
+  told-small v (stepEnd ∷ acts) f q = rw told-stop (told-small v acts f q)
 
   -- every value that an event of a vector shows fits its field
-  pub shown-small : (early : ℕ → Bool) (acts : List Act) → Fitting t acts → (v : ℕ) → SmallItems (2 ^ bits (stateIn t v)) (own v (happens early (gathers t) (begin (gathers t)) acts))
-  shown-small early acts f v =
-      rw own-history (history-small (2 ^ bits (stateIn t v)) _ _ _ (fresh-small (2 ^ bits (stateIn t v)) (width (gathers t) v) (pow-pos (bits (stateIn t v)))) (told-small v acts f))
+  pub shown-small : (early : ℕ → Bool) (acts : List Act) → Fitting t 1 acts → Fitting t 3 acts → (v : ℕ)
+      → SmallItems (2 ^ bits (stateIn t v)) (own v (happens early (gathers t) (begin (gathers t)) acts))
+  shown-small early acts f q v =
+      rw own-history (history-small (2 ^ bits (stateIn t v)) _ _ _ (fresh-small (2 ^ bits (stateIn t v)) (width (gathers t) v) (pow-pos (bits (stateIn t v)))) (told-small v acts f q))
