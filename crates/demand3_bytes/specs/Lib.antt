@@ -9,4 +9,5 @@ pub mod Sentences
 pub mod Tells
 pub mod Whole
 pub mod Suited
+pub mod Watched
 pub mod Readings

@@ -29,14 +29,16 @@ use Rattle.entries.specs.Entries.Reads.{checksOf, eventsFrom}
 use Rattle.entries.specs.Demands.{Demand1, Demand2, sections-1, sections-2, sections-3, changes-1, changes-2, changes-3}
 use Rattle.demand3_bytes.specs.Statements.{Labelled, RecordsOf, stateIn, Demand3, OnBytes}
 use Rattle.demand3_bytes.specs.Trace.{labelledFrom, size, trace, trace-made, trace-said}
-use Rattle.demand3_bytes.specs.Stored.{SmallItems, Fitting, shown-small}
+use Rattle.demand3_bytes.specs.Stored.{SmallItems, shown-small}
+use Rattle.demand3_bytes.specs.Suited.{Suited, sections-suited, changes-suited}
+use Rattle.demand3_bytes.specs.Watched.{acts-fit}
 use Rattle.demand3_bytes.specs.Sentences.{sentences}
 use Rattle.demand3_bytes.specs.Tells.{tells}
 use Rattle.demand3_bytes.specs.Whole.{has-records, records-are}
 
 -- whatever scans the input
 module _ (t : Lists) (input : ℕ) (l : Lent) (sc : Scan) (x : Left) (d1 : Demand1 t input l x) (d2 : Demand2 t input l sc x) (d3 : whole.Demand3 actsEarly (gathers t) (acts sc))
-    (ok : x .answer .number ≡ 0) (nine : Fitting t 1 (acts sc)) (two : Fitting t 3 (acts sc)) where
+    (ok : x .answer .number ≡ 0) (suited : Suited t sc) where
   abbrev all : List Happening
   all = happens actsEarly (gathers t) (begin (gathers t)) (acts sc)
 
@@ -57,7 +59,11 @@ module _ (t : Lists) (input : ℕ) (l : Lent) (sc : Scan) (x : Left) (d1 : Deman
   tables-good = gathers-good t input (l .events) (l .values) (l .room) (l .list) passed
 
   small : (v : ℕ) → SmallItems (2 ^ bits (stateIn t v)) (own v all)
-  small v = let g = good t input (l .events) (l .values) (l .room) (l .list) passed in shown-small t (g .sized) (g .signals) actsEarly (acts sc) nine two v
+  small v =
+      let g = good t input (l .events) (l .values) (l .room) (l .list) passed in
+      let nine = acts-fit t 1 (λ z. omega arith) (omega arith) sc (x .answer .read) (d2 .read ok) suited in
+      let two = acts-fit t 3 (λ z. omega arith) (omega arith) sc (x .answer .read) (d2 .read ok) suited in
+      shown-small t (g .sized) (g .signals) actsEarly (acts sc) nine two v
 
   rest : List ℕ
   rest = drop (x .answer .values) (x .values)
@@ -92,3 +98,15 @@ module _ (t : Lists) (input : ℕ) (l : Lent) (sc : Scan) (x : Left) (d1 : Deman
     history = λ rs r v. rw (records-are output (eventsOf t all) written rs r) (tells actsEarly t tables-good (acts sc) d3 small (x .values) rest held few v);
     demand3 = λ rs r. rw (records-are output (eventsOf t all) written rs r) demand3;
   }
+
+-- ---- at the entries
+
+pub sections-on-bytes : (t : Lists) (flag : Bool) (s : List ℕ) (l : Lent) → readSections t flag s l .answer .number ≡ 0
+    → OnBytes t (acts (scanSections t flag s)) (eventsFrom t (scanSections t flag s)) (readSections t flag s l)
+sections-on-bytes t flag s l ok =
+    on-bytes t (length s) l (scanSections t flag s) (readSections t flag s l) (sections-1 t flag s l) (sections-2 t flag s l) (sections-3 t flag s l ok) ok (sections-suited t s flag)
+
+pub changes-on-bytes : (t : Lists) (s : List ℕ) (l : Lent) → readChanges t s l .answer .number ≡ 0
+    → OnBytes t (acts (scanChanges t s)) (eventsFrom t (scanChanges t s)) (readChanges t s l)
+changes-on-bytes t s l ok =
+    on-bytes t (length s) l (scanChanges t s) (readChanges t s l) (changes-1 t s l) (changes-2 t s l) (changes-3 t s l ok) ok (changes-suited t s)
