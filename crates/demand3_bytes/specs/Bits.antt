@@ -102,6 +102,7 @@ module _ (t : Lists) (h : List Happening) (values zeros : List ℕ) (held : valu
     label = refl;
     start = length pre;
     says = rw (← wide) says;
+    inside = rw (← wide, held, length-append (valuesOf (eventsOf t h)) zeros) (omega (arith, total));
     fits = small;
     bit = λ k o. bit k (rw wide (bit-fits st (length l) k o));
     unused = λ k o d. bit k (rw wide d) ∙ getD-past l k o;

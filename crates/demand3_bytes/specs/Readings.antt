@@ -3,9 +3,9 @@
 use Prim.Native.Nat.{ℕ, _+_, _^_, _≤_, _<_}
 use mathlib.Core.Path.{_≡_, refl, sym, ap, _∙_}
 use mathlib.Core.Bool.{Bool}
-use mathlib.Core.List.{List, [], _∷_, _++_}
+use mathlib.Core.List.{List, [], _∷_, _++_, append-nil}
 use native.Mathlib.Omega.{arith}
-use lib.ListN.{length, take, drop, length-take, take-append-drop}
+use lib.ListN.{length, length-take}
 use Rattle.states.specs.Kind.{bits}
 use Rattle.tables.specs.Lists.{Lists}
 use Rattle.tables.specs.declared.Check.{Check}
@@ -27,7 +27,7 @@ use Rattle.entries.specs.Entries.{readSections, readChanges}
 use Rattle.entries.specs.Entries.Numbers.{checks-number}
 use Rattle.entries.specs.Entries.Reads.{checksOf, eventsFrom}
 use Rattle.entries.specs.Demands.{Demand1, Demand2, sections-1, sections-2, sections-3, changes-1, changes-2, changes-3}
-use Rattle.demand3_bytes.specs.Statements.{Labelled, RecordsOf, stateIn, Demand3, OnBytes}
+use Rattle.demand3_bytes.specs.Statements.{Labelled, RecordsOf, stateIn, Demand3, eventsIn, valuesIn, OnBytes}
 use Rattle.demand3_bytes.specs.Trace.{labelledFrom, size, trace, trace-made, trace-said}
 use Rattle.demand3_bytes.specs.Stored.{SmallItems, shown-small}
 use Rattle.demand3_bytes.specs.Suited.{Suited, sections-suited, changes-suited}
@@ -41,9 +41,6 @@ module _ (t : Lists) (input : ℕ) (l : Lent) (sc : Scan) (x : Left) (d1 : Deman
     (ok : x .answer .number ≡ 0) (suited : Suited t sc) where
   abbrev all : List Happening
   all = happens actsEarly (gathers t) (begin (gathers t)) (acts sc)
-
-  abbrev output : List ℕ
-  output = take (x .answer .events) (x .events)
 
   passed : checksOf t input l ≡ Passed
   passed = go (checksOf t input l) refl
@@ -65,38 +62,35 @@ module _ (t : Lists) (input : ℕ) (l : Lent) (sc : Scan) (x : Left) (d1 : Deman
       let two = acts-fit t 3 (λ z. omega arith) (omega arith) sc (x .answer .read) (d2 .read ok) suited in
       shown-small t (g .sized) (g .signals) actsEarly (acts sc) nine two v
 
-  rest : List ℕ
-  rest = drop (x .answer .values) (x .values)
-
-  held : x .values ≡ valuesOf (eventsOf t all) ++ rest
-  unfolding made rest
-  held = sym (take-append-drop (x .answer .values) (x .values)) ∙ ap (λ k. k ++ drop (x .answer .values) (x .values)) (d2 .values ok)
+  held : valuesIn x ≡ valuesOf (eventsOf t all) ++ []
+  unfolding made
+  held = d2 .values ok ∙ sym (append-nil (valuesOf (eventsOf t all)))
 
   few : size t all < 2 ^ 32
   unfolding made
   few =
-      let a : length (take (x .answer .values) (x .values)) ≡ size t all = ap length (d2 .values ok) in
+      let a : length (valuesIn x) ≡ size t all = ap length (d2 .values ok) in
       let b = limited t input (l .events) (l .values) (l .room) (l .list) passed .of-values in
       omega (arith, length-take (x .answer .values) (x .values), d1 .values .long)
 
-  written : output ≡ rendered 0 (eventsOf t all)
+  written : eventsIn x ≡ rendered 0 (eventsOf t all)
   unfolding made
   written = d2 .events ok
 
-  demand3 : Demand3 actsEarly (gathers t) (acts sc) (x .values) (labelledFrom 0 (eventsOf t all))
+  demand3 : Demand3 actsEarly (gathers t) (acts sc) (valuesIn x) (labelledFrom 0 (eventsOf t all))
   demand3 = record {
     order = trace t 0 all;
     input = trace-said t tables-good all (acts sc) (nothing-lost actsEarly (gathers t) (begin (gathers t)) (acts sc));
     output = trace-made t 0 all;
-    sentences = sentences actsEarly t tables-good (acts sc) d3 small (x .values) rest held few;
+    sentences = sentences actsEarly t tables-good (acts sc) d3 small (valuesIn x) [] held few;
   }
 
   on-bytes : OnBytes t (acts sc) (eventsFrom t sc) x
   unfolding made
   on-bytes = record {
-    records = (labelledFrom 0 (eventsOf t all), has-records output (eventsOf t all) written);
-    history = λ rs r v. rw (records-are output (eventsOf t all) written rs r) (tells actsEarly t tables-good (acts sc) d3 small (x .values) rest held few v);
-    demand3 = λ rs r. rw (records-are output (eventsOf t all) written rs r) demand3;
+    records = (labelledFrom 0 (eventsOf t all), has-records (eventsIn x) (eventsOf t all) written);
+    history = λ rs r v. rw (records-are (eventsIn x) (eventsOf t all) written rs r) (tells actsEarly t tables-good (acts sc) d3 small (valuesIn x) [] held few v);
+    demand3 = λ rs r. rw (records-are (eventsIn x) (eventsOf t all) written rs r) demand3;
   }
 
 -- ---- at the entries

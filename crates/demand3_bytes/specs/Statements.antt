@@ -1,7 +1,7 @@
 -- Demand 3 of the records in the output's bytes, sentence by sentence: definitions and statements only.
 -- A vector goes by its index v, its number less one: a record that is labelled `suc v` was made for it.
 -- Assumes nothing.
-use Prim.Native.Nat.{ℕ, suc, _-_, _*_, _%_, _^_, _≤_, _<_}
+use Prim.Native.Nat.{ℕ, suc, _+_, _-_, _*_, _%_, _^_, _≤_, _<_}
 use mathlib.Core.Path.{_≡_}
 use mathlib.Core.Logic.{_≢_, _⊎_}
 use mathlib.Core.Bool.{Bool, true, false, cond, _&&_, _||_}
@@ -62,7 +62,7 @@ pub record RecordsOf (output : List ℕ) (es : List Event) (rs : List Labelled) 
 
 -- ---- the bits that a record shows
 
--- what a value record says of bit k: the field at the packing's own place in the value buffer
+-- what a value record says of bit k: the field at the packing's own place in the value bytes
 unfoldable pub bitIn : List ℕ → Record → ℕ → ℕ
 bitIn values (Time u) k = 0
 bitIn values (Value s reference start n) k = fieldAt (bits s) (valuePlace s start n k) values
@@ -75,17 +75,22 @@ shows values r k = bitIn values (recordAt (r .bytes) 0) k
 abbrev pub stateIn : Lists → ℕ → States
 stateIn t v = stateOf (getD (t .states) v 0)
 
+-- how many value bytes w bits of vector v need
+abbrev pub bytesOf : Lists → (v w : ℕ) → ℕ
+bytesOf t v w = bytesRequired (stateIn t v) w
+
 -- a record labelled with vector v, of w bits, that shows the values l
 pub record Shows (t : Lists) (v w : ℕ) (values : List ℕ) (r : Labelled) (l : List ℕ) : Type 0 where
   pub label : r .label ≡ suc v
-  -- its kind and reference are the vector's, and it has as many value bytes as the width needs
+  -- its kind and its reference, as four bytes hold it, are the vector's; its bytes lie in the value bytes
   pub start : ℕ
-  pub says : recordAt (r .bytes) 0 ≡ Value (stateIn t v) (getD (t .vecRefs) v 0 % 2 ^ 32) start (bytesRequired (stateIn t v) w)
+  pub says : recordAt (r .bytes) 0 ≡ Value (stateIn t v) (getD (t .vecRefs) v 0 % 2 ^ 32) start (bytesOf t v w)
+  pub inside : start + bytesOf t v w ≤ length values
   -- every value fits its field, and each bit's field holds its value
   pub fits : (k : ℕ) → getD l k 0 < 2 ^ bits (stateIn t v)
   pub bit : (k : ℕ) → k < w → shows values r k ≡ getD l k 0
   -- "unused high places are zero"
-  pub unused : (k : ℕ) → w ≤ k → k < perByte (stateIn t v) * bytesRequired (stateIn t v) w → shows values r k ≡ 0
+  pub unused : (k : ℕ) → w ≤ k → k < perByte (stateIn t v) * bytesOf t v w → shows values r k ≡ 0
 
 -- ---- (a) and (b): one vector's records are the events of its history
 
@@ -95,12 +100,15 @@ partOf v [] = []
 partOf v (r ∷ rs) = cond (isTime (recordAt (r .bytes) 0) || eqb (r .label) (suc v)) (r ∷ partOf v rs) (partOf v rs)
 
 -- these records are the times and the events of a history, in order, and show what those show
-unfoldable pub Tells : Lists → (v w : ℕ) → List ℕ → List Item → List Labelled → Type 0
-Tells t v w values [] rs = rs ≡ []
-Tells t v w values (began u ∷ h) rs = (r : Labelled) × (rest : List Labelled) × (rs ≡ r ∷ rest) × (r .bytes ≡ recordBytes (Time u)) × Tells t v w values h rest
-Tells t v w values (wrote x ∷ h) rs = Tells t v w values h rs
-Tells t v w values (shown c l ∷ h) rs = (r : Labelled) × (rest : List Labelled) × (rs ≡ r ∷ rest) × Shows t v w values r l × Tells t v w values h rest
-Tells t v w values (over ∷ h) rs = Tells t v w values h rs
+module _ (t : Lists) (v w : ℕ) (values : List ℕ) where
+  unfoldable pub Tells : List Item → List Labelled → Type 0
+  Tells [] rs = rs ≡ []
+  Tells (began u ∷ h) rs =
+      (r : Labelled) × (rest : List Labelled) × (rs ≡ r ∷ rest) × (r .bytes ≡ recordBytes (Time u)) × Tells h rest
+  Tells (wrote x ∷ h) rs = Tells h rs
+  Tells (shown c l ∷ h) rs =
+      (r : Labelled) × (rest : List Labelled) × (rs ≡ r ∷ rest) × Shows t v w values r l × Tells h rest
+  Tells (over ∷ h) rs = Tells h rs
 
 -- ---- (c): the input's acts and the output's records in one order
 
@@ -199,36 +207,40 @@ pub record ByEnd (b : List Moment) : Type 0 where
 
 -- `early` is rule (c)'s test of the width, `tr` the acts and records in one order
 pub record Sentences (early : ℕ → Bool) (t : Tables) (values : List ℕ) (tr : List Moment) : Type 0 where
-  -- "every write of a vector bit belongs to exactly one event: the first event of that vector after the write, by the end of the write's step"
-  pub first-event : (v : ℕ) (a : List Moment) (id x p : ℕ) (b : List Moment) → tr ≡ a ++ said (write id x p) ∷ b → t .vector id ≡ suc v
+  -- "every write of a vector bit belongs to exactly one event: the first event of that vector after the write, ..
+  -- .. by the end of the write's step."
+  pub first-event : (v : ℕ) (a : List Moment) (id x p : ℕ) (b : List Moment)
+      → tr ≡ a ++ said (write id x p) ∷ b → t .vector id ≡ suc v
       → (m : List Moment) × (r : Labelled) × (rest : List Moment) × First v b m r rest × Without isStepEnd m
   -- .. "exactly one"
-  pub one-event : (v : ℕ) (b m n : List Moment) (r q : Labelled) (rest others : List Moment) → First v b m r rest → First v b n q others
-      → (m ≡ n) × (r ≡ q) × (rest ≡ others)
+  pub one-event : (v : ℕ) (b m n : List Moment) (r q : Labelled) (rest others : List Moment)
+      → First v b m r rest → First v b n q others → (m ≡ n) × (r ≡ q) × (rest ≡ others)
   -- "Each vector event owns at least one write ..
-  pub owns-some : (v : ℕ) (a : List Moment) (r : Labelled) (b : List Moment) → tr ≡ a ++ made r ∷ b → r .label ≡ suc v
-      → (k x : ℕ) × Waits t v a k x
+  pub owns-some : (v : ℕ) (a : List Moment) (r : Labelled) (b : List Moment)
+      → tr ≡ a ++ made r ∷ b → r .label ≡ suc v → (k x : ℕ) × Waits t v a k x
   -- .. and never two different values of one bit."
-  pub one-value : (v : ℕ) (a : List Moment) (r : Labelled) (b : List Moment) → tr ≡ a ++ made r ∷ b → r .label ≡ suc v
-      → (k x y : ℕ) → Waits t v a k x → Waits t v a k y → x ≡ y
+  pub one-value : (v : ℕ) (a : List Moment) (r : Labelled) (b : List Moment)
+      → tr ≡ a ++ made r ∷ b → r .label ≡ suc v → (k x y : ℕ) → Waits t v a k x → Waits t v a k y → x ≡ y
   -- "Each of its bits shows the last write it owns for that bit; ..
   pub shows-last : (v : ℕ) (a : List Moment) (id x p : ℕ) (m : List Moment) (r : Labelled) (b : List Moment)
       → tr ≡ a ++ said (write id x p) ∷ (m ++ made r ∷ b) → t .vector id ≡ suc v → r .label ≡ suc v
       → Without (isEventOf v) m → Without (writesBit t v (bitOf t v id)) m → shows values r (bitOf t v id) ≡ x
   -- .. owning none, what the vector's previous event showed, ..
   pub shows-previous : (v : ℕ) (a : List Moment) (q : Labelled) (m : List Moment) (r : Labelled) (b : List Moment)
-      → tr ≡ a ++ made q ∷ (m ++ made r ∷ b) → q .label ≡ suc v → r .label ≡ suc v
-      → Without (isEventOf v) m → (k : ℕ) → k < width t v → Without (writesBit t v k) m → shows values r k ≡ shows values q k
+      → tr ≡ a ++ made q ∷ (m ++ made r ∷ b) → q .label ≡ suc v → r .label ≡ suc v → Without (isEventOf v) m
+      → (k : ℕ) → k < width t v → Without (writesBit t v k) m → shows values r k ≡ shows values q k
   -- .. and zero before any."
-  pub shows-zero : (v : ℕ) (m : List Moment) (r : Labelled) (b : List Moment) → tr ≡ m ++ made r ∷ b → r .label ≡ suc v
-      → Without (isEventOf v) m → (k : ℕ) → k < width t v → Without (writesBit t v k) m → shows values r k ≡ 0
+  pub shows-zero : (v : ℕ) (m : List Moment) (r : Labelled) (b : List Moment)
+      → tr ≡ m ++ made r ∷ b → r .label ≡ suc v → Without (isEventOf v) m
+      → (k : ℕ) → k < width t v → Without (writesBit t v k) m → shows values r k ≡ 0
   -- "An event before the step's end is made only by the two early rules."
-  pub made-by : (v : ℕ) (a : List Moment) (r : Labelled) (b : List Moment) → tr ≡ a ++ made r ∷ b → r .label ≡ suc v
-      → ByRewrite t v a b ⊎ (ByCompletion early t v a ⊎ ByEnd b)
+  pub made-by : (v : ℕ) (a : List Moment) (r : Labelled) (b : List Moment)
+      → tr ≡ a ++ made r ∷ b → r .label ≡ suc v → ByRewrite t v a b ⊎ (ByCompletion early t v a ⊎ ByEnd b)
   -- "1 time (8 bytes), at the start of every step": a time makes its record at once, and no other record is a time
   pub time-made : (a : List Moment) (u : ℕ) (b : List Moment) → tr ≡ a ++ said (time u) ∷ b
       → (r : Labelled) × (rest : List Moment) × (b ≡ made r ∷ rest) × (r .bytes ≡ recordBytes (Time u))
-  pub times-only : (a : List Moment) (r : Labelled) (b : List Moment) → tr ≡ a ++ made r ∷ b → isTime (recordAt (r .bytes) 0) ≡ true
+  pub times-only : (a : List Moment) (r : Labelled) (b : List Moment)
+      → tr ≡ a ++ made r ∷ b → isTime (recordAt (r .bytes) 0) ≡ true
       → (before : List Moment) × (u : ℕ) × (a ≡ before ++ said (time u) ∷ [])
 
 -- demand 3 of an input's acts, the output's records and its value bytes
@@ -240,13 +252,19 @@ pub record Demand3 (early : ℕ → Bool) (t : Tables) (acts : List Act) (values
 
 -- ---- an accepted reading
 
+-- the bytes that it reports
+abbrev pub eventsIn : Left → List ℕ
+eventsIn x = take (x .answer .events) (x .events)
+
+abbrev pub valuesIn : Left → List ℕ
+valuesIn x = take (x .answer .values) (x .values)
+
 -- `acts` is what the input says, `es` are the events that the gathering rules make of it, x is what the call leaves
 pub record OnBytes (t : Lists) (acts : List Act) (es : List Event) (x : Left) : Type 0 where
-  -- the reported event bytes are records
-  pub records : (rs : List Labelled) × RecordsOf (take (x .answer .events) (x .events)) es rs
-  -- (a), (b): "the events labelled with the vector" are those of its history, each behind the time of its step
-  pub history : (rs : List Labelled) → RecordsOf (take (x .answer .events) (x .events)) es rs → (v : ℕ)
-      → Tells t v (width (gathers t) v) (x .values) (historyOf actsEarly (gathers t) acts v) (partOf v rs)
+  -- the event bytes are records
+  pub records : (rs : List Labelled) × RecordsOf (eventsIn x) es rs
+  -- (a) and (b): the times, and the events labelled with a vector, are those of its history
+  pub history : (rs : List Labelled) → RecordsOf (eventsIn x) es rs → (v : ℕ)
+      → Tells t v (width (gathers t) v) (valuesIn x) (historyOf actsEarly (gathers t) acts v) (partOf v rs)
   -- (c)
-  pub demand3 : (rs : List Labelled) → RecordsOf (take (x .answer .events) (x .events)) es rs
-      → Demand3 actsEarly (gathers t) acts (x .values) rs
+  pub demand3 : (rs : List Labelled) → RecordsOf (eventsIn x) es rs → Demand3 actsEarly (gathers t) acts (valuesIn x) rs
