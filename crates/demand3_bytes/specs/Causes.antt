@@ -40,7 +40,8 @@ Prompt q (ends ∷ h) = Prompt none h
 
 -- ---- what the gatherer does is prompt
 
-prompt-put : (v : ℕ) (a : Bool) (x : Vec) (w : Write) (c : Bool) (y : Vec) (rest : List Happening) (q : Option ℕ) → ((o : Option ℕ) → Prompt o rest)
+prompt-put : (v : ℕ) (a : Bool) (x : Vec) (w : Write) (c : Bool) (y : Vec) (rest : List Happening) (q : Option ℕ)
+    → ((o : Option ℕ) → Prompt o rest)
     → Prompt q (map (of v) ((fires a rewritten x) .0 ++ wrote w ∷ (fires c complete y) .0) ++ rest)
 unfolding Prompt fires
 prompt-put v true x w true y rest q r = ((w, _, refl), (refl, r none))
@@ -49,7 +50,8 @@ prompt-put v false x w true y rest q r = (refl, r none)
 prompt-put v false x w false y rest q r = r (some v)
 
 end-one : (v : ℕ) (b : Bool) (x : Vec) (rest : List Happening) → UntilEnd rest → ((q : Option ℕ) → Prompt q rest)
-    → UntilEnd (map (of v) ((fires b ended x) .0) ++ rest) × ((q : Option ℕ) → Prompt q (map (of v) ((fires b ended x) .0) ++ rest))
+    → UntilEnd (map (of v) ((fires b ended x) .0) ++ rest) ×
+    ((q : Option ℕ) → Prompt q (map (of v) ((fires b ended x) .0) ++ rest))
 unfolding Prompt UntilEnd fires
 end-one v true x rest u r = (u, λ q. (u, r none))
 end-one v false x rest u r = (u, r)
@@ -64,7 +66,8 @@ prompt-end (v ∷ vs) vecs rest r =
     rw append-assoc (end-one v (any (vecs v .marks)) (vecs v) _ (k .0) (k .1))
 
 module _ (early : ℕ → Bool) (t : Tables) where
-  prompt-toward : (s : State) (n i x p : ℕ) (rest : List Happening) (q : Option ℕ) → ((o : Option ℕ) → Prompt o rest) → Prompt q ((toward early t s n i x p) .0 ++ rest)
+  prompt-toward : (s : State) (n i x p : ℕ) (rest : List Happening) (q : Option ℕ) → ((o : Option ℕ) → Prompt o rest)
+      → Prompt q ((toward early t s n i x p) .0 ++ rest)
   unfolding toward toVector act Prompt
   prompt-toward s zero i x p rest q r = r none
   prompt-toward s (suc v) i x p rest q r = prompt-put v _ (s .vecs v) (bitWrite t v i x p) _ _ rest q r
@@ -78,7 +81,8 @@ module _ (early : ℕ → Bool) (t : Tables) where
 
 -- ---- at an event
 
-pub at-end : (q : Option ℕ) (a : List Happening) (v : ℕ) (l : List ℕ) (b : List Happening) → Prompt q (a ++ of v (shown ended l) ∷ b) → UntilEnd b
+pub at-end : (q : Option ℕ) (a : List Happening) (v : ℕ) (l : List ℕ) (b : List Happening)
+    → Prompt q (a ++ of v (shown ended l) ∷ b) → UntilEnd b
 unfolding Prompt
 at-end q [] v l b r = r .0
 at-end q (at u ∷ a) v l b r = at-end none a v l b r
@@ -110,7 +114,8 @@ written : (u : ℕ) (x : Write) (v : ℕ) (a : List Happening) → Either (some 
 written u x v a (inl (e, f)) = let d = Option·some-injective u v e in ([], x, rw (d, f))
 written u x v a (inr k) = later (of u (wrote x)) v a k
 
-complete-from : (q : Option ℕ) (a : List Happening) (v : ℕ) (l : List ℕ) (b : List Happening) → Prompt q (a ++ of v (shown complete l) ∷ b) → Either q v a
+complete-from : (q : Option ℕ) (a : List Happening) (v : ℕ) (l : List ℕ) (b : List Happening)
+    → Prompt q (a ++ of v (shown complete l) ∷ b) → Either q v a
 unfolding Prompt
 complete-from q [] v l b r = inl (r .0, refl)
 complete-from q (at u ∷ a) v l b r = inr (passed _ v a (complete-from none a v l b r))
@@ -123,10 +128,14 @@ complete-from q (of w (shown ended m) ∷ a) v l b r = inr (passed _ v a (comple
 complete-from q (of w over ∷ a) v l b r = inr (passed _ v a (complete-from none a v l b r))
 complete-from q (ends ∷ a) v l b r = inr (passed _ v a (complete-from none a v l b r))
 
-pub at-complete : (a : List Happening) (v : ℕ) (l : List ℕ) (b : List Happening) → Prompt none (a ++ of v (shown complete l) ∷ b) → Behind v a
-at-complete a v l b r = ⊎-elim (λ (k : (none ≡ some v) × (a ≡ [])). absurd (Option·none-ne-some v (k .0))) (λ (k : Behind v a). k) (complete-from none a v l b r)
+pub at-complete : (a : List Happening) (v : ℕ) (l : List ℕ) (b : List Happening)
+    → Prompt none (a ++ of v (shown complete l) ∷ b) → Behind v a
+at-complete a v l b r =
+    ⊎-elim (λ (k : (none ≡ some v) × (a ≡ [])). absurd (Option·none-ne-some v (k .0))) (λ (k : Behind v a). k)
+    (complete-from none a v l b r)
 
-pub at-rewrite : (q : Option ℕ) (a : List Happening) (v : ℕ) (l : List ℕ) (b : List Happening) → Prompt q (a ++ of v (shown rewritten l) ∷ b) → Next v b
+pub at-rewrite : (q : Option ℕ) (a : List Happening) (v : ℕ) (l : List ℕ) (b : List Happening)
+    → Prompt q (a ++ of v (shown rewritten l) ∷ b) → Next v b
 unfolding Prompt
 at-rewrite q [] v l b r = r .0
 at-rewrite q (at u ∷ a) v l b r = at-rewrite none a v l b r

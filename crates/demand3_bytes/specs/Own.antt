@@ -20,15 +20,20 @@ none = record { vector = λ i. 0; min = λ v. 0; max = λ v. 0 }
 
 at-alone : (v u : ℕ) → own v (at u ∷ []) ≡ began u ∷ []
 unfolding does history act
-at-alone v u = (own-act actsEarly none v (begin none) (time u) (sound-begin none)) .0 ∙ rw (told-time none v u [], told-nil none v)
+at-alone v u =
+    (own-act actsEarly none v (begin none) (time u) (sound-begin none)) .0 ∙ rw (told-time none v u [], told-nil none v)
 
 single-alone : (v i x p : ℕ) → own v (single i x p ∷ []) ≡ []
 unfolding does toward history
-single-alone v i x p = (own-act actsEarly none v (begin none) (write i x p) (sound-begin none)) .0 ∙ rw (told-write none v i x p [], eqb·zero-suc v, told-nil none v)
+single-alone v i x p =
+    (own-act actsEarly none v (begin none) (write i x p) (sound-begin none)) .0 ∙ rw
+    (told-write none v i x p [], eqb·zero-suc v, told-nil none v)
 
 ends-alone : (v : ℕ) → own v (ends ∷ []) ≡ over ∷ []
 unfolding does endAll begin fresh fires history act
-ends-alone v = (own-act actsEarly none v (begin none) stepEnd (sound-begin none)) .0 ∙ rw (told-stop none v [], told-nil none v, any-clear (width none v))
+ends-alone v =
+    (own-act actsEarly none v (begin none) stepEnd (sound-begin none)) .0 ∙ rw
+    (told-stop none v [], told-nil none v, any-clear (width none v))
 
 module _ (v : ℕ) (h : List Happening) where
   pub own-at : (u : ℕ) → own v (at u ∷ h) ≡ began u ∷ own v h
@@ -69,7 +74,8 @@ module _ (v : ℕ) where
   here : (h : List Happening) (i : Item) → Place v (of v i ∷ h) [] i (own v h)
   here h i = record { before = []; behind = h; split = refl; front = own-nil; back = refl }
 
-  behind-one : (x : Happening) (h : List Happening) (j m : List Item) (i : Item) (rest : List Item) → own v (x ∷ []) ≡ j → Place v h m i rest → Place v (x ∷ h) (j ++ m) i rest
+  behind-one : (x : Happening) (h : List Happening) (j m : List Item) (i : Item) (rest : List Item) → own v (x ∷ []) ≡ j
+      → Place v h m i rest → Place v (x ∷ h) (j ++ m) i rest
   behind-one x h j m i rest e q = record {
     before = x ∷ q .before;
     behind = q .behind;
@@ -78,8 +84,10 @@ module _ (v : ℕ) where
     back = q .back;
   }
 
-  outer : (x : Happening) (h : List Happening) (j : Item) → isInner j ≡ false → own v (x ∷ []) ≡ j ∷ [] → (m : List Item) (i : Item) (rest : List Item) → isInner i ≡ true
-      → own v (x ∷ h) ≡ m ++ i ∷ rest → ((n : List Item) → own v h ≡ n ++ i ∷ rest → Place v h n i rest) → Place v (x ∷ h) m i rest
+  outer : (x : Happening) (h : List Happening) (j : Item) → isInner j ≡ false → own v (x ∷ []) ≡ j ∷ []
+      → (m : List Item) (i : Item) (rest : List Item) → isInner i ≡ true
+      → own v (x ∷ h) ≡ m ++ i ∷ rest → ((n : List Item) → own v h ≡ n ++ i ∷ rest → Place v h n i rest)
+      → Place v (x ∷ h) m i rest
   outer x h j out e [] i rest inn p rec =
       let f : j ∷ own v h ≡ i ∷ rest = rw e at (sym (own-append v (x ∷ []) h)) ∙ p in
       let g : j ≡ i = cc in
@@ -95,7 +103,8 @@ module _ (v : ℕ) where
   other x h e m i rest p rec = behind-one x h [] m i rest e (rec (rw e at (sym (own-append v (x ∷ []) h)) ∙ p))
 
   mine : (h : List Happening) (j : Item) (m : List Item) (i : Item) (rest : List Item)
-      → own v (of v j ∷ h) ≡ m ++ i ∷ rest → ((n : List Item) → own v h ≡ n ++ i ∷ rest → Place v h n i rest) → Place v (of v j ∷ h) m i rest
+      → own v (of v j ∷ h) ≡ m ++ i ∷ rest → ((n : List Item) → own v h ≡ n ++ i ∷ rest → Place v h n i rest)
+      → Place v (of v j ∷ h) m i rest
   mine h j [] i rest p rec =
       let f : j ∷ own v h ≡ i ∷ rest = sym (own-of v h j) ∙ p in
       let g : j ≡ i = cc in
@@ -107,12 +116,15 @@ module _ (v : ℕ) where
       let q = rec m (cc) in
       rw (← g) (behind-one (of v j) h (j ∷ []) m i rest (own-same v (j ∷ [])) q)
 
-  pub own-place : (h : List Happening) (m : List Item) (i : Item) (rest : List Item) → isInner i ≡ true → own v h ≡ m ++ i ∷ rest → Place v h m i rest
+  pub own-place : (h : List Happening) (m : List Item) (i : Item) (rest : List Item) → isInner i ≡ true
+      → own v h ≡ m ++ i ∷ rest → Place v h m i rest
   unfolding isInner
   own-place [] [] i rest n p = let f : i ∷ rest ≡ [] = sym p ∙ own-nil in absurd (cons≢nil f)
   own-place [] (k ∷ m) i rest n p = let f : k ∷ (m ++ i ∷ rest) ≡ [] = sym p ∙ own-nil in absurd (cons≢nil f)
-  own-place (at u ∷ h) m i rest n p = outer (at u) h (began u) refl (at-alone v u) m i rest n p (λ k. own-place h k i rest n)
-  own-place (single j x q ∷ h) m i rest n p = other (single j x q) h (single-alone v j x q) m i rest p (own-place h m i rest n)
+  own-place (at u ∷ h) m i rest n p =
+      outer (at u) h (began u) refl (at-alone v u) m i rest n p (λ k. own-place h k i rest n)
+  own-place (single j x q ∷ h) m i rest n p =
+      other (single j x q) h (single-alone v j x q) m i rest p (own-place h m i rest n)
   own-place (of u j ∷ h) m i rest n p =
       let rec : (k : List Item) → own v h ≡ k ++ i ∷ rest → Place v h k i rest = λ k. own-place h k i rest n in
       by-test (eqb v u) (λ e. rw (← eqb-true v u e) (mine h j m i rest (rw (← eqb-true v u e) at p) rec))

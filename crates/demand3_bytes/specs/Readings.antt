@@ -37,7 +37,8 @@ use Rattle.demand3_bytes.specs.Tells.{tells}
 use Rattle.demand3_bytes.specs.Whole.{has-records, records-are}
 
 -- whatever scans the input
-module _ (t : Lists) (input : ℕ) (l : Lent) (sc : Scan) (x : Left) (d1 : Demand1 t input l x) (d2 : Demand2 t input l sc x) (d3 : whole.Demand3 actsEarly (gathers t) (acts sc))
+module _ (t : Lists) (input : ℕ) (l : Lent) (sc : Scan) (x : Left) (d1 : Demand1 t input l x)
+    (d2 : Demand2 t input l sc x) (d3 : whole.Demand3 actsEarly (gathers t) (acts sc))
     (ok : x .answer .number ≡ 0) (suited : Suited t sc) where
   abbrev all : List Happening
   all = happens actsEarly (gathers t) (begin (gathers t)) (acts sc)
@@ -89,7 +90,9 @@ module _ (t : Lists) (input : ℕ) (l : Lent) (sc : Scan) (x : Left) (d1 : Deman
   unfolding made
   on-bytes = record {
     records = (labelledFrom 0 (eventsOf t all), has-records (eventsIn x) (eventsOf t all) written);
-    history = λ rs r v. rw (records-are (eventsIn x) (eventsOf t all) written rs r) (tells actsEarly t tables-good (acts sc) d3 small (valuesIn x) [] held few v);
+    history =
+        λ rs r v. rw (records-are (eventsIn x) (eventsOf t all) written rs r)
+        (tells actsEarly t tables-good (acts sc) d3 small (valuesIn x) [] held few v);
     demand3 = λ rs r. rw (records-are (eventsIn x) (eventsOf t all) written rs r) demand3;
   }
 
@@ -98,9 +101,11 @@ module _ (t : Lists) (input : ℕ) (l : Lent) (sc : Scan) (x : Left) (d1 : Deman
 pub sections-on-bytes : (t : Lists) (flag : Bool) (s : List ℕ) (l : Lent) → readSections t flag s l .answer .number ≡ 0
     → OnBytes t (acts (scanSections t flag s)) (eventsFrom t (scanSections t flag s)) (readSections t flag s l)
 sections-on-bytes t flag s l ok =
-    on-bytes t (length s) l (scanSections t flag s) (readSections t flag s l) (sections-1 t flag s l) (sections-2 t flag s l) (sections-3 t flag s l ok) ok (sections-suited t s flag)
+    on-bytes t (length s) l (scanSections t flag s) (readSections t flag s l) (sections-1 t flag s l)
+    (sections-2 t flag s l) (sections-3 t flag s l ok) ok (sections-suited t s flag)
 
 pub changes-on-bytes : (t : Lists) (s : List ℕ) (l : Lent) → readChanges t s l .answer .number ≡ 0
     → OnBytes t (acts (scanChanges t s)) (eventsFrom t (scanChanges t s)) (readChanges t s l)
 changes-on-bytes t s l ok =
-    on-bytes t (length s) l (scanChanges t s) (readChanges t s l) (changes-1 t s l) (changes-2 t s l) (changes-3 t s l ok) ok (changes-suited t s)
+    on-bytes t (length s) l (scanChanges t s) (readChanges t s l) (changes-1 t s l) (changes-2 t s l)
+    (changes-3 t s l ok) ok (changes-suited t s)

@@ -244,7 +244,8 @@ pub record Sentences (early : ℕ → Bool) (t : Tables) (values : List ℕ) (tr
       → (before : List Moment) × (u : ℕ) × (a ≡ before ++ said (time u) ∷ [])
 
 -- demand 3 of an input's acts, the output's records and its value bytes
-pub record Demand3 (early : ℕ → Bool) (t : Tables) (acts : List Act) (values : List ℕ) (rs : List Labelled) : Type 0 where
+pub record Demand3 (early : ℕ → Bool) (t : Tables) (acts : List Act) (values : List ℕ) (rs : List Labelled)
+    : Type 0 where
   pub order : List Moment
   pub input : saidIn order ≡ acts
   pub output : madeIn order ≡ rs

@@ -1,4 +1,5 @@
--- Every value that a vector stores fits its field, where every value that is written to a signal of kind 1 or 3 is in its range.
+-- Every value that a vector stores fits its field, where every value that is written to a signal of kind 1 or 3
+-- is in its kind's range.
 -- Assumes nothing.
 use Prim.Native.Nat.{ℕ, zero, suc, _-_, _^_, _≤_, _<_}
 use mathlib.Core.Path.{_≡_, refl, sym, ap, _∙_}
@@ -39,7 +40,8 @@ SmallItems m (wrote x ∷ h) = SmallItems m h
 SmallItems m (shown c l ∷ h) = ((k : ℕ) → getD l k 0 < m) × SmallItems m h
 SmallItems m (over ∷ h) = SmallItems m h
 
-pub small-at : (m : ℕ) (a : List Item) (c : Cause) (l : List ℕ) (b : List Item) → SmallItems m (a ++ shown c l ∷ b) → (k : ℕ) → getD l k 0 < m
+pub small-at : (m : ℕ) (a : List Item) (c : Cause) (l : List ℕ) (b : List Item) → SmallItems m (a ++ shown c l ∷ b)
+    → (k : ℕ) → getD l k 0 < m
 unfolding SmallItems
 small-at m [] c l b s = s .0
 small-at m (began u ∷ a) c l b s = small-at m a c l b s
@@ -58,7 +60,8 @@ module _ (m : ℕ) where
   SmallVec : Vec → Type 0
   SmallVec v = (k : ℕ) → getD (v .vals) k 0 < m
 
-  small-fires : (b : Bool) (c : Cause) (v : Vec) (rest : List Item) → SmallVec v → SmallItems m rest → SmallItems m ((fires b c v) .0 ++ rest)
+  small-fires : (b : Bool) (c : Cause) (v : Vec) (rest : List Item) → SmallVec v → SmallItems m rest
+      → SmallItems m ((fires b c v) .0 ++ rest)
   unfolding fires SmallItems SmallVec
   small-fires true c v rest s r = (s, r)
   small-fires false c v rest s r = r
@@ -72,7 +75,8 @@ module _ (m : ℕ) where
   unfolding stored SmallVec
   stored-small v x s h = set-small m (v .vals) (x .bit) (x .value) s h
 
-  history-small : (early : Bool) (v : Vec) (ops : List Op) → SmallVec v → SmallOps m ops → SmallItems m (history early v ops)
+  history-small : (early : Bool) (v : Vec) (ops : List Op) → SmallVec v → SmallOps m ops
+      → SmallItems m (history early v ops)
   unfolding history act SmallOps SmallItems
   history-small early v [] s o = tt
   history-small early v (start u ∷ ops) s o = history-small early v ops s o
@@ -81,8 +85,10 @@ module _ (m : ℕ) where
       let b = stored-small ((fires (clashes v x) rewritten v) .1) x a (o .0) in
       rw append-assoc
       (small-fires (clashes v x) rewritten v _ s
-      (small-fires _ complete (stored ((fires (clashes v x) rewritten v) .1) x) _ b (history-small early _ ops (fires-small _ complete (stored ((fires (clashes v x) rewritten v) .1) x) b) (o .1))))
-  history-small early v (stop ∷ ops) s o = rw append-assoc (small-fires _ ended v _ s (history-small early _ ops (fires-small _ ended v s) o))
+      (small-fires _ complete (stored ((fires (clashes v x) rewritten v) .1) x) _ b
+      (history-small early _ ops (fires-small _ complete (stored ((fires (clashes v x) rewritten v) .1) x) b) (o .1))))
+  history-small early v (stop ∷ ops) s o =
+      rw append-assoc (small-fires _ ended v _ s (history-small early _ ops (fires-small _ ended v s) o))
 
   fresh-small : (w : ℕ) → 0 < m → SmallVec (fresh w)
   unfolding fresh SmallVec
@@ -101,7 +107,8 @@ Fitting t kind (stepEnd ∷ acts) = Fitting t kind acts
 
 module _ (t : Lists) (z : Sized t) (g : Signals t) where
   -- "kinds 1 and 3 name a vector .. whose state matches"; no other kind names one
-  bit-fits : (i v x : ℕ) → i < length (t .kinds) → getD (t .vecs) i 0 ≡ suc v → (getD (t .kinds) i 0 ≡ 1 → x ≤ mostOf 1) → (getD (t .kinds) i 0 ≡ 3 → x ≤ mostOf 3) → x < 2 ^ bits (stateIn t v)
+  bit-fits : (i v x : ℕ) → i < length (t .kinds) → getD (t .vecs) i 0 ≡ suc v → (getD (t .kinds) i 0 ≡ 1 → x ≤ mostOf 1)
+      → (getD (t .kinds) i 0 ≡ 3 → x ≤ mostOf 3) → x < 2 ^ bits (stateIn t v)
   unfolding mostOf
   bit-fits i v x h e one three = go (ℕ-discrete (getD (t .kinds) i 0) 1) (ℕ-discrete (getD (t .kinds) i 0) 3)
     where
@@ -116,13 +123,16 @@ module _ (t : Lists) (z : Sized t) (g : Signals t) where
       go (no n) (yes k) = let m : x ≤ 1 = three k in rw (state (g .two i h k)) (omega arith)
       go (no n) (no o) = absurd (omega (arith, g .alone i h n o))
 
-  field-fits : (i v x : ℕ) → nth (t .vecs) i ≡ suc v → (nth (t .kinds) i ≡ 1 → x ≤ mostOf 1) → (nth (t .kinds) i ≡ 3 → x ≤ mostOf 3) → x < 2 ^ bits (stateIn t v)
+  field-fits : (i v x : ℕ) → nth (t .vecs) i ≡ suc v → (nth (t .kinds) i ≡ 1 → x ≤ mostOf 1)
+      → (nth (t .kinds) i ≡ 3 → x ≤ mostOf 3) → x < 2 ^ bits (stateIn t v)
   unfolding nth
   field-fits zero v x e one three = absurd (omega arith)
   field-fits (suc i) v x e one three =
-      ⊎-elim (λ (o : length (t .kinds) ≤ i). absurd (omega (arith, getD-past (t .vecs) i (rw (z .vecs-long) o)))) (λ (o : i < length (t .kinds)). bit-fits i v x o e one three) (le-or-lt (length (t .kinds)) i)
+      ⊎-elim (λ (o : length (t .kinds) ≤ i). absurd (omega (arith, getD-past (t .vecs) i (rw (z .vecs-long) o))))
+      (λ (o : i < length (t .kinds)). bit-fits i v x o e one three) (le-or-lt (length (t .kinds)) i)
 
-  told-small : (v : ℕ) (acts : List Act) → Fitting t 1 acts → Fitting t 3 acts → SmallOps (2 ^ bits (stateIn t v)) (told (gathers t) v acts)
+  told-small : (v : ℕ) (acts : List Act) → Fitting t 1 acts → Fitting t 3 acts
+      → SmallOps (2 ^ bits (stateIn t v)) (told (gathers t) v acts)
   unfolding Fitting SmallOps gathers bitWrite
   told-small v [] f q = rw told-nil tt
   told-small v (time u ∷ acts) f q = rw told-time (told-small v acts f q)
@@ -137,4 +147,6 @@ module _ (t : Lists) (z : Sized t) (g : Signals t) where
   pub shown-small : (early : ℕ → Bool) (acts : List Act) → Fitting t 1 acts → Fitting t 3 acts → (v : ℕ)
       → SmallItems (2 ^ bits (stateIn t v)) (own v (happens early (gathers t) (begin (gathers t)) acts))
   shown-small early acts f q v =
-      rw own-history (history-small (2 ^ bits (stateIn t v)) _ _ _ (fresh-small (2 ^ bits (stateIn t v)) (width (gathers t) v) (pow-pos (bits (stateIn t v)))) (told-small v acts f q))
+      rw own-history (history-small (2 ^ bits (stateIn t v)) _ _ _
+      (fresh-small (2 ^ bits (stateIn t v)) (width (gathers t) v) (pow-pos (bits (stateIn t v))))
+      (told-small v acts f q))

@@ -1,4 +1,5 @@
--- Every write that a scan says has an id of the table and a value that its signal's kind can take: of section bytes and of change records.
+-- Every write that a scan says has an id of the table and a value that its signal's kind can take:
+-- of section bytes, and of change records.
 -- Assumes nothing.
 use Prim.Native.Nat.{ℕ, zero, suc, _+_, _^_, _≤_, _<_}
 use mathlib.Core.Path.{_≡_, refl}
@@ -59,7 +60,8 @@ module _ (t : Lists) where
     unfolding endMark Suited
     on-mark mark i = on-field 4 i _ (λ j. cond-ind (same (part s i 4) mark) _ _ Suited (λ e. tt) (λ e. tt))
 
-    on-value : (id i : ℕ) (k : ℕ → ℕ → Scan) → ((v j : ℕ) → Suits (nth (t .kinds) id) v → Suited (k v j)) → Suited (onRead (value (nth (t .kinds) id) s i) fault k)
+    on-value : (id i : ℕ) (k : ℕ → ℕ → Scan) → ((v j : ℕ) → Suits (nth (t .kinds) id) v → Suited (k v j))
+        → Suited (onRead (value (nth (t .kinds) id) s i) fault k)
     unfolding onRead Suited
     on-value id i k f = go (value (nth (t .kinds) id) s i) refl
       where
@@ -70,7 +72,8 @@ module _ (t : Lists) where
     each-value : (count id i : ℕ) → 1 ≤ id → id + count ≤ signals t + 1 → Suited (eachValue t s count id i)
     unfolding eachValue Suited
     each-value zero id i a b = tt
-    each-value (suc count) id i a b = on-value id i _ (λ v j u. ((a, omega arith, u), each-value count (suc id) j (omega arith) (omega arith)))
+    each-value (suc count) id i a b =
+        on-value id i _ (λ v j u. ((a, omega arith, u), each-value count (suc id) j (omega arith) (omega arith)))
 
     IdFound : NextId → Type 0
     IdFound (ids.Id id j) = (1 ≤ id) × (id ≤ signals t)
@@ -81,13 +84,17 @@ module _ (t : Lists) where
     unfolding nextId IdFound onRead
     id-found id i = go (unsigned s i)
       where
-        go : (r : Read) → IdFound (onRead r ids.Bad (λ d j. cond (eqb d 0) (ids.End j) (cond (leb (id + d) (signals t)) (ids.Id (id + d) j) (ids.Bad 13 i))))
+        go : (r : Read)
+            → IdFound
+            (onRead r ids.Bad (λ d j. cond (eqb d 0) (ids.End j) (cond (leb (id + d) (signals t)) (ids.Id (id + d) j) (ids.Bad 13 i))))
         go (Value d j) =
             cond-ind (eqb d 0) _ _ IdFound (λ e. tt)
-            (λ e. cond-ind (leb (id + d) (signals t)) _ _ IdFound (λ l. (omega (arith, eqb-false d 0 e), leb-true _ _ l)) (λ l. tt))
+            (λ e. cond-ind (leb (id + d) (signals t)) _ _ IdFound
+            (λ l. (omega (arith, eqb-false d 0 e), leb-true _ _ l)) (λ l. tt))
         go (Bad n p) = tt
 
-    one-change : (x : NextId) (more : ℕ → ℕ → Scan) → IdFound x → ((id j : ℕ) → Suited (more id j)) → Suited (oneChange t s x more)
+    one-change : (x : NextId) (more : ℕ → ℕ → Scan) → IdFound x → ((id j : ℕ) → Suited (more id j))
+        → Suited (oneChange t s x more)
     unfolding oneChange IdFound Suited
     one-change (ids.Id id j) more o f = on-value id j _ (λ v k u. ((o .0, o .1, u), f id k))
     one-change (ids.End j) more o f = tt
@@ -101,7 +108,8 @@ module _ (t : Lists) where
     -- ---- sections
 
     module _ (flag : Bool) where
-      one-step : (x : NextTime) (more : ℕ → ℕ → Scan) → ((u j : ℕ) → Suited (more u j)) → Suited (oneStep t flag s x more)
+      one-step : (x : NextTime) (more : ℕ → ℕ → Scan) → ((u j : ℕ) → Suited (more u j))
+          → Suited (oneStep t flag s x more)
       unfolding oneStep Suited
       one-step (times.Time u j) more f = f u j
       one-step (times.End j) more f = on-mark ecy j
@@ -110,7 +118,9 @@ module _ (t : Lists) where
       in-steps : (fuel u i : ℕ) → Suited (steps t flag s fuel u i)
       unfolding steps Suited
       in-steps zero u i = tt
-      in-steps (suc fuel) u i = suited-then (changeList t s (length s) 0 i) _ (change-list (length s) 0 i) (λ j. one-step (nextTime s u j) _ (λ u′ e. in-steps fuel u′ e))
+      in-steps (suc fuel) u i =
+          suited-then (changeList t s (length s) 0 i) _ (change-list (length s) 0 i)
+          (λ j. one-step (nextTime s u j) _ (λ u′ e. in-steps fuel u′ e))
 
       in-cycle : (i : ℕ) → Suited (cycle t flag s i)
       unfolding cycle Suited
@@ -121,20 +131,26 @@ module _ (t : Lists) where
       in-snapshot i =
           on-field 12 i _
           (λ j. cond-ind (same (part s i 4) (replicate 4 0)) _ _ Suited
-          (λ e. suited-then (eachValue t s (signals t) 1 j) _ (each-value (signals t) 1 j (omega arith) (omega arith)) (λ k. on-mark esn k)) (λ e. tt))
+          (λ e. suited-then (eachValue t s (signals t) 1 j) _ (each-value (signals t) 1 j (omega arith) (omega arith))
+          (λ k. on-mark esn k)) (λ e. tt))
 
       in-entries : (count i : ℕ) → Suited (entries t flag s count i)
       unfolding entries Suited
       in-entries zero i = tt
-      in-entries (suc count) i = on-field 4 i _ (λ j. on-field 4 j _ (λ k. cond-ind (negative 32 (fixed flag (part s j 4))) _ _ Suited (λ e. tt) (λ e. in-entries count k)))
+      in-entries (suc count) i =
+          on-field 4 i _ (λ j. on-field 4 j _ (λ k. cond-ind (negative 32 (fixed flag (part s j 4))) _ _ Suited
+          (λ e. tt) (λ e. in-entries count k)))
 
       in-directory : (i : ℕ) → Suited (directory t flag s i)
       unfolding directory Suited
       in-directory i =
           on-field 8 i _
-          (λ j. cond-ind (negative 32 (fixed flag (part s (i + 4) 4))) _ _ Suited (λ e. tt) (λ e. suited-then (entries t flag s (fixed flag (part s (i + 4) 4)) j) _ (in-entries _ j) (λ k. on-mark eod k)))
+          (λ j. cond-ind (negative 32 (fixed flag (part s (i + 4) 4))) _ _ Suited (λ e. tt)
+          (λ e. suited-then (entries t flag s (fixed flag (part s (i + 4) 4)) j) _ (in-entries _ j)
+          (λ k. on-mark eod k)))
 
-      in-section : (x : Section) (mark i : ℕ) (k : ℕ → Scan) → ((j : ℕ) → Suited (k j)) → Suited (oneSection t flag s x mark i k)
+      in-section : (x : Section) (mark i : ℕ) (k : ℕ → Scan) → ((j : ℕ) → Suited (k j))
+          → Suited (oneSection t flag s x mark i k)
       unfolding oneSection Suited
       in-section Snapshot mark i k f = suited-then (snapshot t flag s i) k (in-snapshot i) f
       in-section Cycle mark i k f = suited-then (cycle t flag s i) k (in-cycle i) f
@@ -145,7 +161,8 @@ module _ (t : Lists) where
       in-sections : (fuel i : ℕ) → Suited (sections t flag s fuel i)
       unfolding sections Suited
       in-sections zero i = tt
-      in-sections (suc fuel) i = on-field 4 i _ (λ j. in-section (sectionOf (part s i 4)) i j _ (λ k. in-sections fuel k))
+      in-sections (suc fuel) i =
+          on-field 4 i _ (λ j. in-section (sectionOf (part s i 4)) i j _ (λ k. in-sections fuel k))
 
       pub sections-suited : Suited (scanSections t flag s)
       unfolding scanSections
@@ -153,7 +170,8 @@ module _ (t : Lists) where
 
     -- ---- change records
 
-    one-record : (c : Change) (i : ℕ) (more : Bool → ℕ → Scan) → Found t s i c → ((b : Bool) (j : ℕ) → Suited (more b j)) → Suited (oneRecord t s c i more)
+    one-record : (c : Change) (i : ℕ) (more : Bool → ℕ → Scan) → Found t s i c
+        → ((b : Bool) (j : ℕ) → Suited (more b j)) → Suited (oneRecord t s c i more)
     unfolding oneRecord Suited
     one-record (change.Time u j) i more o f = f true j
     one-record (change.Write id v j) i more o f = ((o .2, o .3, o .4), f true j)
@@ -163,8 +181,10 @@ module _ (t : Lists) where
 
     in-changes : (fuel : ℕ) (inside : Bool) (i : ℕ) → Suited (changes t s fuel inside i)
     unfolding changes Suited
-    in-changes zero inside i = one-record (nextChange t s inside i) i _ (change-found t s i inside refl refl) (λ b j. tt)
-    in-changes (suc fuel) inside i = one-record (nextChange t s inside i) i _ (change-found t s i inside refl refl) (λ b j. in-changes fuel b j)
+    in-changes zero inside i =
+        one-record (nextChange t s inside i) i _ (change-found t s i inside refl refl) (λ b j. tt)
+    in-changes (suc fuel) inside i =
+        one-record (nextChange t s inside i) i _ (change-found t s i inside refl refl) (λ b j. in-changes fuel b j)
 
     pub changes-suited : Suited (scanChanges t s)
     unfolding scanChanges

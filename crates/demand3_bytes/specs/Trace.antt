@@ -33,7 +33,8 @@ labelledFrom start (e ∷ es) = labelled start e ∷ labelledFrom (start + lengt
 pub joined-rendered : (start : ℕ) (es : List Event) → joined (labelledFrom start es) ≡ rendered start es
 unfolding labelledFrom labelled joined rendered
 joined-rendered start [] = refl
-joined-rendered start (e ∷ es) = ap (λ l. recordBytes (recordOf start e) ++ l) (joined-rendered (start + length (eventValue e)) es)
+joined-rendered start (e ∷ es) =
+    ap (λ l. recordBytes (recordOf start e) ++ l) (joined-rendered (start + length (eventValue e)) es)
 
 pub labels-labelled : (start : ℕ) (es : List Event) → labels (labelledFrom start es) ≡ labelsOf es
 unfolding labelledFrom labelled labels labelsOf
@@ -90,7 +91,8 @@ module _ (t : Lists) where
   size-nil = refl
 
   pub size-append : (a b : List Happening) → size (a ++ b) ≡ size a + size b
-  size-append a b = rw (events-append, values-append) (length-append (valuesOf (eventsOf t a)) (valuesOf (eventsOf t b)))
+  size-append a b =
+      rw (events-append, values-append) (length-append (valuesOf (eventsOf t a)) (valuesOf (eventsOf t b)))
 
   pub trace-append : (s : ℕ) (a b : List Happening) → trace s (a ++ b) ≡ trace s a ++ trace (s + size a) b
   unfolding trace
@@ -104,11 +106,14 @@ module _ (t : Lists) where
   pub trace-made : (s : ℕ) (h : List Happening) → madeIn (trace s h) ≡ labelledFrom s (eventsOf t h)
   unfolding trace moments itemMoments madeIn eventsOf ofVector valuesOf labelledFrom
   trace-made s [] = refl
-  trace-made s (at u ∷ h) = ap (λ l. labelled s (events.time u) ∷ l) (rw (append-nil (eventValue (events.time u))) (trace-made _ h))
-  trace-made s (single i x p ∷ h) = ap (λ l. labelled s (aloneEvent i x) ∷ l) (rw (append-nil (eventValue (aloneEvent i x))) (trace-made _ h))
+  trace-made s (at u ∷ h) =
+      ap (λ l. labelled s (events.time u) ∷ l) (rw (append-nil (eventValue (events.time u))) (trace-made _ h))
+  trace-made s (single i x p ∷ h) =
+      ap (λ l. labelled s (aloneEvent i x) ∷ l) (rw (append-nil (eventValue (aloneEvent i x))) (trace-made _ h))
   trace-made s (of v (began u) ∷ h) = rw (add-zero s) (trace-made s h)
   trace-made s (of v (wrote x) ∷ h) = rw (add-zero s) (trace-made s h)
-  trace-made s (of v (shown c l) ∷ h) = ap (λ r. labelled s (eventOf v l) ∷ r) (rw (append-nil (eventValue (eventOf v l))) (trace-made _ h))
+  trace-made s (of v (shown c l) ∷ h) =
+      ap (λ r. labelled s (eventOf v l) ∷ r) (rw (append-nil (eventValue (eventOf v l))) (trace-made _ h))
   trace-made s (of v over ∷ h) = rw (add-zero s) (trace-made s h)
   trace-made s (ends ∷ h) = rw (add-zero s) (trace-made s h)
 
@@ -121,14 +126,16 @@ module _ (t : Lists) where
   said-echoes s r (at u ∷ h) = ap (λ l. time u ∷ l) (said-echoes _ _ h)
   said-echoes s r (single i x p ∷ h) = ap (λ l. write i x p ∷ l) (said-echoes _ _ h)
   said-echoes s r (of v (began u) ∷ h) = ap (λ l. time u ∷ l) (said-echoes _ _ h)
-  said-echoes s r (of v (wrote x) ∷ h) = ap (λ l. write (gathers t .max v - x .bit) (x .value) (x .pos) ∷ l) (said-echoes _ _ h)
+  said-echoes s r (of v (wrote x) ∷ h) =
+      ap (λ l. write (gathers t .max v - x .bit) (x .value) (x .pos) ∷ l) (said-echoes _ _ h)
   said-echoes s r (of v (shown c l) ∷ h) = said-echoes _ _ h
   said-echoes s r (of v over ∷ h) = ap (λ l. stepEnd ∷ l) (said-echoes _ _ h)
   said-echoes s r (ends ∷ h) = ap (λ l. stepEnd ∷ l) (said-echoes _ _ h)
 
   module _ (good : Good (gathers t)) where
     said-write : (s n i x p : ℕ) (h : List Happening) → gathers t .vector i ≡ n
-        → saidIn (trace s (writeEcho (gathers t) n i x p ∷ h)) ≡ write i x p ∷ saidIn (trace (s + size (writeEcho (gathers t) n i x p ∷ [])) h)
+        → saidIn (trace s (writeEcho (gathers t) n i x p ∷ h)) ≡ write i x p ∷ saidIn
+        (trace (s + size (writeEcho (gathers t) n i x p ∷ [])) h)
     unfolding trace moments itemMoments saidIn writeEcho bitWrite Good
     said-write s zero i x p h e = refl
     said-write s (suc v) i x p h e =
@@ -144,5 +151,6 @@ module _ (t : Lists) where
         said-write s _ i x p (map (echo (gathers t)) acts) refl ∙ ap (λ l. write i x p ∷ l) (said-acts r acts)
     said-acts s (stepEnd ∷ acts) = ap (λ l. stepEnd ∷ l) (said-acts _ acts)
 
-    pub trace-said : (h : List Happening) (acts : List Act) → echoes h ≡ map (echo (gathers t)) acts → saidIn (trace 0 h) ≡ acts
+    pub trace-said : (h : List Happening) (acts : List Act) → echoes h ≡ map (echo (gathers t)) acts
+        → saidIn (trace 0 h) ≡ acts
     trace-said h acts e = said-echoes 0 0 h ∙ (rw e (said-acts 0 acts))

@@ -98,7 +98,9 @@ module _ (t : Lists) (kind : ℕ) (some-kind : kind ≢ 0) (byte-kind : kind ≤
   seenEvents (write i x p) = seenEvent i x ∷ []
   seenEvents stepEnd = []
 
-  does-watch : (f : ℕ → Vec) (a : Act) → (eventsOf watch ((does actsEarly (gathers watch) (still f) a) .0) ≡ seenEvents a) × ((does actsEarly (gathers watch) (still f) a) .1 ≡ still f)
+  does-watch : (f : ℕ → Vec) (a : Act)
+      → (eventsOf watch ((does actsEarly (gathers watch) (still f) a) .0) ≡ seenEvents a) ×
+      ((does actsEarly (gathers watch) (still f) a) .1 ≡ still f)
   unfolding does toward endAll gathers eventsOf seenEvents watch
   does-watch f (time u) = (refl, refl)
   does-watch f (write i x p) = rw (nth-nil i) (rw (nth-nil i), refl)
@@ -129,7 +131,9 @@ module _ (t : Lists) (kind : ℕ) (some-kind : kind ≢ 0) (byte-kind : kind ≤
 
   mild-alone : (k x : ℕ) → (k ≡ kind → x ≤ b) → Mild (alone (seen k) 0 x)
   unfolding seen alone
-  mild-alone k x h = cond-ind (eqb k kind) 0 6 (λ z. Mild (alone z 0 x)) (λ e. mild-watched x (h (eqb-true k kind e))) (λ e. mild-other x)
+  mild-alone k x h =
+      cond-ind (eqb k kind) 0 6 (λ z. Mild (alone z 0 x)) (λ e. mild-watched x (h (eqb-true k kind e)))
+      (λ e. mild-other x)
 
   mild-write : (i x : ℕ) → Taken t i x → Mild (seenEvent i x)
   unfolding watch signals
@@ -144,12 +148,21 @@ module _ (t : Lists) (kind : ℕ) (some-kind : kind ≢ 0) (byte-kind : kind ≤
     one-fits : (n : ℕ) (o : Out) (e : Event) → Mild e → Holds (1 + n) o → append r o e ≡ some (appended r o e)
     unfolding append fits Holds
     one-fits n o e (a, c, d) (p, q, s) =
-        rw (le-leb (length (o .events) + length (recordBytes (recordOf 0 e))) (r .events) (omega arith), le-leb (length (o .values) + length (eventValue e)) (r .values) (omega arith))
+        rw (
+          le-leb (length (o .events) + length (recordBytes (recordOf 0 e))) (r .events) (omega arith),
+          le-leb
+              (length (o .values) + length (eventValue e)) (r .values) (omega arith),
+        )
 
     one-holds : (n : ℕ) (o : Out) (e : Event) → Mild e → Holds (1 + n) o → Holds n (appended r o e)
     unfolding appended Holds
     one-holds n o e (a, c, d) (p, q, s) = (
-      omega (arith, length-append (o .events) (recordBytes (recordOf (length (o .values)) e)), length-record (length (o .values)) e),
+      omega (
+        arith,
+        length-append (o .events) (recordBytes (recordOf (length (o .values)) e)),
+        length-record
+            (length (o .values)) e,
+      ),
       omega (arith, length-append (o .values) (eventValue e)),
       all-join b (o .values) (eventValue e) s a,
     )
@@ -174,7 +187,8 @@ module _ (t : Lists) (kind : ℕ) (some-kind : kind ≢ 0) (byte-kind : kind ≤
     after-watch f a = does-watch f a .1
 
     -- one act that fits, and then the rest
-    then-goes : (a : Act) (p : ℕ) (sc : Scan) (f : ℕ → Vec) (o o₁ : Out) (i : ℕ) → appendAll r (seenEvents a) (some o) ≡ some o₁ → Goes sc f o₁ i → Goes (say a p sc) f o i
+    then-goes : (a : Act) (p : ℕ) (sc : Scan) (f : ℕ → Vec) (o o₁ : Out) (i : ℕ)
+        → appendAll r (seenEvents a) (some o) ≡ some o₁ → Goes sc f o₁ i → Goes (say a p sc) f o i
     unfolding run fitted
     then-goes a p sc f o o₁ i e (g, o′, h, q) = (g, o′, rw (acted-watch f o a, e, after-watch f a) h, q)
 
@@ -185,7 +199,8 @@ module _ (t : Lists) (kind : ℕ) (some-kind : kind ≢ 0) (byte-kind : kind ≤
     goes : (sc : Scan) (f : ℕ → Vec) (o : Out) (i : ℕ) → Ends i sc → Suited t sc → Holds (says sc) o → Goes sc f o i
     unfolding says Ends Suited seenEvents appendAll
     goes (say (time u) p sc) f o i d s h =
-        then-goes (time u) p sc f o (appended r o (events.time u)) i (one-fits (says sc) o (events.time u) (mild-time u) h)
+        then-goes (time u) p sc f o (appended r o (events.time u)) i
+        (one-fits (says sc) o (events.time u) (mild-time u) h)
         (goes sc f (appended r o (events.time u)) i d s (one-holds (says sc) o (events.time u) (mild-time u) h))
     goes (say (write j x q) p sc) f o i d s h =
         let m = mild-write j x (s .0) in
@@ -197,12 +212,14 @@ module _ (t : Lists) (kind : ℕ) (some-kind : kind ≢ 0) (byte-kind : kind ≤
 
   -- ---- what the acts write
 
-  made-watch : (f : ℕ → Vec) (a : Act) (l : List Act) → made watch (still f) (a ∷ l) ≡ seenEvents a ++ made watch (still f) l
+  made-watch : (f : ℕ → Vec) (a : Act) (l : List Act)
+      → made watch (still f) (a ∷ l) ≡ seenEvents a ++ made watch (still f) l
   unfolding made happens
   made-watch f a l =
       let step = does actsEarly (gathers watch) (still f) a in
       events-append watch (step .0) (happens actsEarly (gathers watch) (step .1) l)
-      ∙ (ap (λ es. es ++ made watch (step .1) l) (does-watch f a .0) ∙ ap (λ g. seenEvents a ++ made watch g l) (does-watch f a .1))
+      ∙ (ap (λ es. es ++ made watch (step .1) l) (does-watch f a .0) ∙ ap (λ g. seenEvents a ++ made watch g l)
+      (does-watch f a .1))
 
   seen-kind : seen kind ≡ 0
   unfolding seen
@@ -216,17 +233,24 @@ module _ (t : Lists) (kind : ℕ) (some-kind : kind ≢ 0) (byte-kind : kind ≤
   unfolding seenEvents watch
   byte-of i x p e h = value-of x (rw (nth-found seen (t .kinds) i kind some-kind e, seen-kind) at h)
 
-  first-of : (f : ℕ → Vec) (a : Act) (l : List Act) → AllLe b (valuesOf (made watch (still f) (a ∷ l))) → AllLe b (valuesOf (seenEvents a))
-  first-of f a l h = all-parts b (valuesOf (seenEvents a)) (valuesOf (made watch (still f) l)) (rw (made-watch f a l, values-append watch (seenEvents a) (made watch (still f) l)) at h) .0
+  first-of : (f : ℕ → Vec) (a : Act) (l : List Act) → AllLe b (valuesOf (made watch (still f) (a ∷ l)))
+      → AllLe b (valuesOf (seenEvents a))
+  first-of f a l h =
+      all-parts b (valuesOf (seenEvents a)) (valuesOf (made watch (still f) l))
+      (rw (made-watch f a l, values-append watch (seenEvents a) (made watch (still f) l)) at h) .0
 
-  rest-of : (f : ℕ → Vec) (a : Act) (l : List Act) → AllLe b (valuesOf (made watch (still f) (a ∷ l))) → AllLe b (valuesOf (made watch (still f) l))
-  rest-of f a l h = all-parts b (valuesOf (seenEvents a)) (valuesOf (made watch (still f) l)) (rw (made-watch f a l, values-append watch (seenEvents a) (made watch (still f) l)) at h) .1
+  rest-of : (f : ℕ → Vec) (a : Act) (l : List Act) → AllLe b (valuesOf (made watch (still f) (a ∷ l)))
+      → AllLe b (valuesOf (made watch (still f) l))
+  rest-of f a l h =
+      all-parts b (valuesOf (seenEvents a)) (valuesOf (made watch (still f) l))
+      (rw (made-watch f a l, values-append watch (seenEvents a) (made watch (still f) l)) at h) .1
 
   fitting-made : (f : ℕ → Vec) (l : List Act) → AllLe b (valuesOf (made watch (still f) l)) → Fitting t kind l
   unfolding Fitting
   fitting-made f [] h = tt
   fitting-made f (time u ∷ l) h = fitting-made f l (rest-of f (time u) l h)
-  fitting-made f (write i x p ∷ l) h = ((λ e. byte-of i x p e (first-of f (write i x p) l h)), fitting-made f l (rest-of f (write i x p) l h))
+  fitting-made f (write i x p ∷ l) h =
+      ((λ e. byte-of i x p e (first-of f (write i x p) l h)), fitting-made f l (rest-of f (write i x p) l h))
   fitting-made f (stepEnd ∷ l) h = fitting-made f l (rest-of f stepEnd l h)
 
   nothing-held : (n : ℕ) → Holds (record { events = 13 * n; values = n }) n empty

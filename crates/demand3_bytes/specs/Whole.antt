@@ -17,10 +17,13 @@ use Rattle.demand3_bytes.specs.Statements.{Labelled, joined, labels, Who
 use Rattle.demand3_bytes.specs.Trace.{labelled, labelledFrom, joined-rendered, labels-labelled}
 
 same : (r q : Labelled) → r .label ≡ q .label → r .bytes ≡ q .bytes → r ≡ q
-same r q e f = ap {B = Labelled} (λ l. record { label = l; bytes = r .bytes }) e ∙ ap {B = Labelled} (λ b. record { label = q .label; bytes = b }) f
+same r q e f =
+    ap {B = Labelled} (λ l. record { label = l; bytes = r .bytes }) e ∙ ap {B = Labelled}
+    (λ b. record { label = q .label; bytes = b }) f
 
 -- the first record of two lists with the same bytes is the same
-module _ (a b j k : List ℕ) (pa : 0 < length a) (pb : 0 < length b) (la : length a ≡ eventLength (getD a 0 0)) (lb : length b ≡ eventLength (getD b 0 0)) (e : a ++ j ≡ b ++ k) where
+module _ (a b j k : List ℕ) (pa : 0 < length a) (pb : 0 < length b) (la : length a ≡ eventLength (getD a 0 0))
+    (lb : length b ≡ eventLength (getD b 0 0)) (e : a ++ j ≡ b ++ k) where
   same-kind : getD a 0 0 ≡ getD b 0 0
   same-kind = sym (List·getD-append a j 0 0 pa) ∙ (ap (λ l. getD l 0 0) e ∙ List·getD-append b k 0 0 pb)
 
@@ -44,17 +47,23 @@ only-one [] (q ∷ qs) w u e f = absurd (cons≢nil (sym f))
 only-one (r ∷ rs) [] w u e f = absurd (cons≢nil f)
 only-one (r ∷ rs) (q ∷ qs) w u e f =
     let g : r .label ≡ q .label = cc in
-    let one : r ≡ q = same r q g (same-bytes (r .bytes) (q .bytes) (joined rs) (joined qs) (w .0) (u .0) (w .1) (u .1) e) in
-    let rest = only-one rs qs (w .2) (u .2) (same-rest (r .bytes) (q .bytes) (joined rs) (joined qs) (w .0) (u .0) (w .1) (u .1) e) (cc) in
+    let one : r ≡ q = same r q g (same-bytes (r .bytes) (q .bytes) (joined rs) (joined qs) (w .0) (u .0) (w .1)
+    (u .1) e) in
+    let rest = only-one rs qs (w .2) (u .2)
+    (same-rest (r .bytes) (q .bytes) (joined rs) (joined qs) (w .0) (u .0) (w .1) (u .1) e) (cc) in
     rw (one, rest)
 
 -- ---- the records of events
 
-whole-one : (s : ℕ) (e : Event) → (0 < length (recordBytes (recordOf s e))) × (length (recordBytes (recordOf s e)) ≡ eventLength (getD (recordBytes (recordOf s e)) 0 0))
+whole-one : (s : ℕ) (e : Event)
+    → (0 < length (recordBytes (recordOf s e))) ×
+    (length (recordBytes (recordOf s e)) ≡ eventLength (getD (recordBytes (recordOf s e)) 0 0))
 unfolding recordOf recordBytes eventLength
 whole-one s (time u) = (omega (arith, length-time u), length-time u)
-whole-one s (value v Two reference bs) = (omega (arith, length-value Two reference s (length bs)), length-value Two reference s (length bs))
-whole-one s (value v Nine reference bs) = (omega (arith, length-value Nine reference s (length bs)), length-value Nine reference s (length bs))
+whole-one s (value v Two reference bs) =
+    (omega (arith, length-value Two reference s (length bs)), length-value Two reference s (length bs))
+whole-one s (value v Nine reference bs) =
+    (omega (arith, length-value Nine reference s (length bs)), length-value Nine reference s (length bs))
 whole-one s (real reference b) = (omega (arith, length-real reference b), length-real reference b)
 
 whole-all : (s : ℕ) (es : List Event) → Whole (labelledFrom s es)
@@ -67,4 +76,6 @@ module _ (output : List ℕ) (es : List Event) (e : output ≡ rendered 0 es) wh
   has-records = record { whole = whole-all 0 es; bytes = joined-rendered 0 es ∙ sym e; labelled = labels-labelled 0 es }
 
   pub records-are : (rs : List Labelled) → RecordsOf output es rs → rs ≡ labelledFrom 0 es
-  records-are rs r = only-one rs (labelledFrom 0 es) (r .whole) (whole-all 0 es) (r .bytes ∙ (e ∙ sym (joined-rendered 0 es))) (r .labelled ∙ sym (labels-labelled 0 es))
+  records-are rs r =
+      only-one rs (labelledFrom 0 es) (r .whole) (whole-all 0 es) (r .bytes ∙ (e ∙ sym (joined-rendered 0 es)))
+      (r .labelled ∙ sym (labels-labelled 0 es))

@@ -38,7 +38,8 @@ module _ {A : Type 0} (ys : List A) (m : A) (b : List A) where
   cut-append (x ∷ xs) [] e = let f : x ≡ m = cc in inl (xs, ap (λ z. z ∷ xs) f, (cc))
   cut-append (x ∷ xs) (y ∷ a) e =
       let f : x ≡ y = cc in
-      ⊎-elim (λ (w : Within xs a). inl (w .0, rw (f, w .1), w .2)) (λ (w : Beyond xs a). inr (w .0, rw (f, w .1), w .2)) (cut-append xs a (cc))
+      ⊎-elim (λ (w : Within xs a). inl (w .0, rw (f, w .1), w .2)) (λ (w : Beyond xs a). inr (w .0, rw (f, w .1), w .2))
+      (cut-append xs a (cc))
 
 module _ {A : Type 0} where
   cut-one : (x : A) (a : List A) (m : A) (b : List A) → x ∷ [] ≡ a ++ m ∷ b → (x ≡ m) × (a ≡ []) × (b ≡ [])
@@ -70,12 +71,14 @@ module _ (t : Lists) where
     from : ℕ
     right : b ≡ back ++ trace t from behind
 
-  cut : (s : ℕ) (h : List Happening) (a : List Moment) (m : Moment) (b : List Moment) → trace t s h ≡ a ++ m ∷ b → Cut s h a m b
+  cut : (s : ℕ) (h : List Happening) (a : List Moment) (m : Moment) (b : List Moment) → trace t s h ≡ a ++ m ∷ b
+      → Cut s h a m b
   unfolding trace
   cut s [] [] m b e = absurd (cons≢nil (sym e))
   cut s [] (x ∷ a) m b e = absurd (cons≢nil (sym e))
   cut s (x ∷ h) a m b e =
-      ⊎-elim here (λ (w : Beyond (trace t (s + size t (x ∷ [])) h) m b (moments t s x) a). there w (cut (s + size t (x ∷ [])) h (w .0) m b (w .2)))
+      ⊎-elim here (λ (w : Beyond (trace t (s + size t (x ∷ [])) h) m b (moments t s x) a). there w
+      (cut (s + size t (x ∷ [])) h (w .0) m b (w .2)))
       (cut-append (trace t (s + size t (x ∷ [])) h) m b (moments t s x) a e)
     where
       here : Within (trace t (s + size t (x ∷ [])) h) m b (moments t s x) a → Cut s (x ∷ h) a m b
@@ -92,9 +95,11 @@ module _ (t : Lists) where
         right = q;
       }
 
-      there : (w : Beyond (trace t (s + size t (x ∷ [])) h) m b (moments t s x) a) → Cut (s + size t (x ∷ [])) h (w .0) m b → Cut s (x ∷ h) a m b
+      there : (w : Beyond (trace t (s + size t (x ∷ [])) h) m b (moments t s x) a)
+          → Cut (s + size t (x ∷ [])) h (w .0) m b → Cut s (x ∷ h) a m b
       there (c, p, q) k =
-          let n : s + size t (x ∷ []) + size t (k .before) ≡ s + size t (x ∷ k .before) = omega (arith, size-append t (x ∷ []) (k .before)) in
+          let n : s + size t (x ∷ []) + size t (k .before) ≡ s + size t (x ∷ k .before) = omega
+          (arith, size-append t (x ∷ []) (k .before)) in
           record {
             before = x ∷ k .before;
             happening = k .happening;
@@ -116,7 +121,8 @@ Named t [] = Unit {0}
 Named t (at u ∷ h) = Named t h
 Named t (single i x p ∷ h) = (t .vector i ≡ 0) × Named t h
 Named t (of v (began u) ∷ h) = ⊥
-Named t (of v (wrote x) ∷ h) = ((t .vector (t .max v - x .bit) ≡ suc v) × (t .max v - (t .max v - x .bit) ≡ x .bit)) × Named t h
+Named t (of v (wrote x) ∷ h) =
+    ((t .vector (t .max v - x .bit) ≡ suc v) × (t .max v - (t .max v - x .bit) ≡ x .bit)) × Named t h
 Named t (of v (shown c l) ∷ h) = Named t h
 Named t (of v over ∷ h) = ⊥
 Named t (ends ∷ h) = Named t h
@@ -132,7 +138,8 @@ named-echoes t (of v (shown c l) ∷ h) n = named-echoes t h n
 named-echoes t (of v over ∷ h) n = n
 named-echoes t (ends ∷ h) n = named-echoes t h n
 
-named-write : (t : Tables) → Good t → (n i x p : ℕ) (h : List Happening) → t .vector i ≡ n → Named t h → Named t (writeEcho t n i x p ∷ h)
+named-write : (t : Tables) → Good t → (n i x p : ℕ) (h : List Happening) → t .vector i ≡ n → Named t h
+    → Named t (writeEcho t n i x p ∷ h)
 unfolding Named writeEcho bitWrite Good
 named-write t g zero i x p h e r = (e, r)
 named-write t g (suc v) i x p h e r =
@@ -184,7 +191,8 @@ time-not-end : {u : ℕ} → said (time u) ≡ said stepEnd → ⊥
 time-not-end e = let z : _≡_ {A = ℕ} 0 1 = cc in omega arith
 
 -- value and real records are no times
-pub value-no-time : (st : States) (reference start n : ℕ) → isTime (recordAt (recordBytes (Value st reference start n)) 0) ≡ false
+pub value-no-time : (st : States) (reference start n : ℕ)
+    → isTime (recordAt (recordBytes (Value st reference start n)) 0) ≡ false
 unfolding recordBytes recordAt isTime
 value-no-time Two reference start n = refl
 value-no-time Nine reference start n = refl
@@ -193,7 +201,8 @@ real-no-time : (reference b : ℕ) → isTime (recordAt (recordBytes (Real refer
 unfolding recordBytes recordAt isTime
 real-no-time reference b = refl
 
-pub alone-no-time : (s kind reference x : ℕ) → isTime (recordAt (recordBytes (recordOf s (alone kind reference x))) 0) ≡ false
+pub alone-no-time : (s kind reference x : ℕ)
+    → isTime (recordAt (recordBytes (recordOf s (alone kind reference x))) 0) ≡ false
 unfolding alone recordOf
 alone-no-time s kind reference x =
     let P : Event → Type 0 = λ e. isTime (recordAt (recordBytes (recordOf s e)) 0) ≡ false in
@@ -205,7 +214,8 @@ pub alone-label : (kind reference x : ℕ) → labelOf (alone kind reference x) 
 unfolding alone labelOf
 alone-label kind reference x =
     cond-ind (leb kind 1) _ _ (λ e. labelOf e ≡ 0) (λ h. refl)
-    (λ h. cond-ind (leb kind 4) _ _ (λ e. labelOf e ≡ 0) (λ h. refl) (λ h. cond-ind (eqb kind 5) _ _ (λ e. labelOf e ≡ 0) (λ h. refl) (λ h. refl)))
+    (λ h. cond-ind (leb kind 4) _ _ (λ e. labelOf e ≡ 0) (λ h. refl)
+    (λ h. cond-ind (eqb kind 5) _ _ (λ e. labelOf e ≡ 0) (λ h. refl) (λ h. refl)))
 
 module _ (t : Lists) (s v : ℕ) where
   abbrev IsWrite : Happening → (id y : ℕ) → Type 0
@@ -217,8 +227,10 @@ module _ (t : Lists) (s v : ℕ) where
   abbrev T : Tables
   T = gathers t
 
-  same-vector : (u : ℕ) (w : Write) (id y p : ℕ) → said (write (T .max u - w .bit) (w .value) (w .pos)) ≡ said (write id y p) → T .vector id ≡ suc v
-      → (T .vector (T .max u - w .bit) ≡ suc u) × (T .max u - (T .max u - w .bit) ≡ w .bit) → IsWrite (of u (wrote w)) id y
+  same-vector : (u : ℕ) (w : Write) (id y p : ℕ)
+      → said (write (T .max u - w .bit) (w .value) (w .pos)) ≡ said (write id y p) → T .vector id ≡ suc v
+      → (T .vector (T .max u - w .bit) ≡ suc u) × (T .max u - (T .max u - w .bit) ≡ w .bit)
+      → IsWrite (of u (wrote w)) id y
   same-vector u w id y p e f q =
       let i : T .max u - w .bit ≡ id = cc in
       let k : w .value ≡ y = cc in
@@ -226,15 +238,18 @@ module _ (t : Lists) (s v : ℕ) where
       let d : u ≡ v = omega arith in
       (w, rw d, rw (← d, ← i) (sym (q .1)), k)
 
-  write-in : (x : Happening) (id y p : ℕ) (front back : List Moment) → moments t s x ≡ front ++ said (write id y p) ∷ back → T .vector id ≡ suc v → Named T (x ∷ [])
+  write-in : (x : Happening) (id y p : ℕ) (front back : List Moment)
+      → moments t s x ≡ front ++ said (write id y p) ∷ back → T .vector id ≡ suc v → Named T (x ∷ [])
       → IsWrite x id y × Alone front back
   unfolding moments itemMoments Named
   write-in (at u) id y p front back e f q =
       ⊎-elim (λ c. absurd (not-time (c .0))) (λ c. absurd (apart (sym (c .0)))) (cut-two _ _ front _ back e)
   write-in (single i x o) id y p front back e f q =
-      ⊎-elim (λ c. let d : 0 ≡ suc v = sym (q .0) ∙ (rw (same-id (c .0)) f) in absurd (omega arith)) (λ c. absurd (apart (sym (c .0)))) (cut-two _ _ front _ back e)
+      ⊎-elim (λ c. let d : 0 ≡ suc v = sym (q .0) ∙ (rw (same-id (c .0)) f) in absurd (omega arith))
+      (λ c. absurd (apart (sym (c .0)))) (cut-two _ _ front _ back e)
   write-in (of u (began w)) id y p front back e f q = absurd q
-  write-in (of u (wrote w)) id y p front back e f q = let c = cut-one _ front _ back e in (same-vector u w id y p (c .0) f (q .0), (c .1, c .2))
+  write-in (of u (wrote w)) id y p front back e f q =
+      let c = cut-one _ front _ back e in (same-vector u w id y p (c .0) f (q .0), (c .1, c .2))
   write-in (of u (shown d l)) id y p front back e f q = absurd (apart (sym (cut-one _ front _ back e .0)))
   write-in (of u over) id y p front back e f q = absurd q
   write-in ends id y p front back e f q = absurd (not-end (cut-one _ front _ back e .0))
@@ -242,13 +257,16 @@ module _ (t : Lists) (s v : ℕ) where
   abbrev IsEvent : Happening → Labelled → Type 0
   IsEvent x r = (c : Cause) × (l : List ℕ) × (x ≡ of v (shown c l)) × (r ≡ labelled s (eventOf t v l))
 
-  event-in : (x : Happening) (r : Labelled) (front back : List Moment) → moments t s x ≡ front ++ made r ∷ back → r .label ≡ suc v → Named T (x ∷ []) → IsEvent x r × Alone front back
+  event-in : (x : Happening) (r : Labelled) (front back : List Moment) → moments t s x ≡ front ++ made r ∷ back
+      → r .label ≡ suc v → Named T (x ∷ []) → IsEvent x r × Alone front back
   unfolding moments itemMoments Named labelled labelOf
   event-in (at u) r front back e f q =
-      ⊎-elim (λ c. absurd (apart (c .0))) (λ c. let z : 0 ≡ suc v = ap (λ k. k .label) (made-same (c .0)) ∙ f in absurd (omega arith)) (cut-two _ _ front _ back e)
+      ⊎-elim (λ c. absurd (apart (c .0))) (λ c. let z : 0 ≡ suc v = ap (λ k. k .label) (made-same (c .0)) ∙ f in absurd
+      (omega arith)) (cut-two _ _ front _ back e)
   event-in (single i x o) r front back e f q =
       ⊎-elim (λ c. absurd (apart (c .0)))
-      (λ c. let z : 0 ≡ suc v = sym (alone-label (nth (t .kinds) i) (nth (t .refs) i) x) ∙ ap (λ k. k .label) (made-same (c .0)) ∙ f in absurd (omega arith)) (cut-two _ _ front _ back e)
+      (λ c. let z : 0 ≡ suc v = sym (alone-label (nth (t .kinds) i) (nth (t .refs) i) x) ∙ ap (λ k. k .label)
+      (made-same (c .0)) ∙ f in absurd (omega arith)) (cut-two _ _ front _ back e)
   event-in (of u (began w)) r front back e f q = absurd q
   event-in (of u (wrote w)) r front back e f q = absurd (apart (cut-one _ front _ back e .0))
   event-in (of u (shown c l)) r front back e f q =
@@ -260,11 +278,13 @@ module _ (t : Lists) (s v : ℕ) where
   event-in ends r front back e f q = absurd (apart (cut-one _ front _ back e .0))
 
 module _ (t : Lists) where
-  time-in : (u s : ℕ) (x : Happening) (front back : List Moment) → moments t s x ≡ front ++ said (time u) ∷ back → Named (gathers t) (x ∷ [])
+  time-in : (u s : ℕ) (x : Happening) (front back : List Moment) → moments t s x ≡ front ++ said (time u) ∷ back
+      → Named (gathers t) (x ∷ [])
       → (s : ℕ) × (back ≡ made (labelled s (events.time u)) ∷ [])
   unfolding moments itemMoments Named
   time-in u s (at w) front back e q =
-      ⊎-elim (λ c. let d : w ≡ u = said-time (c .0) in (s, rw (← d) (c .2))) (λ c. absurd (apart (sym (c .0)))) (cut-two _ _ front _ back e)
+      ⊎-elim (λ c. let d : w ≡ u = said-time (c .0) in (s, rw (← d) (c .2))) (λ c. absurd (apart (sym (c .0))))
+      (cut-two _ _ front _ back e)
   time-in u s (single i x o) front back e q =
       ⊎-elim (λ c. absurd (not-time (sym (c .0)))) (λ c. absurd (apart (sym (c .0)))) (cut-two _ _ front _ back e)
   time-in u s (of v (began w)) front back e q = absurd q
@@ -274,17 +294,20 @@ module _ (t : Lists) where
   time-in u s ends front back e q = absurd (time-not-end (sym (cut-one _ front _ back e .0)))
 
   -- a record that is a time was made at one
-  made-in : (r : Labelled) → isTime (recordAt (r .bytes) 0) ≡ true → (s : ℕ) (x : Happening) (front back : List Moment) → moments t s x ≡ front ++ made r ∷ back
+  made-in : (r : Labelled) → isTime (recordAt (r .bytes) 0) ≡ true → (s : ℕ) (x : Happening) (front back : List Moment)
+      → moments t s x ≡ front ++ made r ∷ back
       → (u : ℕ) × (front ≡ said (time u) ∷ [])
   unfolding moments itemMoments labelled recordOf
   made-in r f s (at u) front back e = ⊎-elim (λ c. absurd (apart (c .0))) (λ c. (u, c .1)) (cut-two _ _ front _ back e)
   made-in r f s (single i x o) front back e =
       ⊎-elim (λ c. absurd (apart (c .0)))
-      (λ c. absurd (true≢false (sym f ∙ ap (λ k. isTime (recordAt (k .bytes) 0)) (sym (made-same (c .0))) ∙ alone-no-time s (nth (t .kinds) i) (nth (t .refs) i) x))) (cut-two _ _ front _ back e)
+      (λ c. absurd (true≢false (sym f ∙ ap (λ k. isTime (recordAt (k .bytes) 0)) (sym (made-same (c .0)))
+      ∙ alone-no-time s (nth (t .kinds) i) (nth (t .refs) i) x))) (cut-two _ _ front _ back e)
   made-in r f s (of v (began w)) front back e = absurd (apart (cut-one _ front _ back e .0))
   made-in r f s (of v (wrote w)) front back e = absurd (apart (cut-one _ front _ back e .0))
   made-in r f s (of v (shown d l)) front back e =
-      absurd (true≢false (sym f ∙ ap (λ k. isTime (recordAt (k .bytes) 0)) (sym (made-same (cut-one _ front _ back e .0))) ∙ value-no-time (stateIn t v) _ s _))
+      absurd (true≢false (sym f ∙ ap (λ k. isTime (recordAt (k .bytes) 0))
+      (sym (made-same (cut-one _ front _ back e .0))) ∙ value-no-time (stateIn t v) _ s _))
   made-in r f s (of v over) front back e = absurd (apart (cut-one _ front _ back e .0))
   made-in r f s ends front back e = absurd (apart (cut-one _ front _ back e .0))
 
@@ -314,10 +337,12 @@ module _ (t : Lists) (h : List Happening) (n : Named (gathers t) h) where
   one-named : (a : List Happening) (x : Happening) (b : List Happening) → h ≡ a ++ x ∷ b → Named (gathers t) (x ∷ [])
   one-named a x b e = named-append (gathers t) (x ∷ []) b (named-append (gathers t) a (x ∷ b) (rw e at n) .1) .0
 
-  pub at-write : (v : ℕ) (a : List Moment) (id x p : ℕ) (b : List Moment) → trace t 0 h ≡ a ++ said (write id x p) ∷ b → gathers t .vector id ≡ suc v → AtWrite v a id x b
+  pub at-write : (v : ℕ) (a : List Moment) (id x p : ℕ) (b : List Moment) → trace t 0 h ≡ a ++ said (write id x p) ∷ b
+      → gathers t .vector id ≡ suc v → AtWrite v a id x b
   at-write v a id x p b e f =
       let k = cut t 0 h a (said (write id x p)) b e in
-      let (q, o) = write-in t (0 + size t (k .before)) v (k .happening) id x p (k .front) (k .back) (k .inside) f (one-named (k .before) (k .happening) (k .behind) (k .split)) in
+      let (q, o) = write-in t (0 + size t (k .before)) v (k .happening) id x p (k .front) (k .back) (k .inside) f
+      (one-named (k .before) (k .happening) (k .behind) (k .split)) in
       record {
         before = k .before;
         write = q .0;
@@ -330,10 +355,12 @@ module _ (t : Lists) (h : List Happening) (n : Named (gathers t) h) where
         right = k .right ∙ ap (λ z. z ++ trace t (k .from) (k .behind)) (o .1);
       }
 
-  pub at-event : (v : ℕ) (a : List Moment) (r : Labelled) (b : List Moment) → trace t 0 h ≡ a ++ made r ∷ b → r .label ≡ suc v → AtEvent v a r b
+  pub at-event : (v : ℕ) (a : List Moment) (r : Labelled) (b : List Moment) → trace t 0 h ≡ a ++ made r ∷ b
+      → r .label ≡ suc v → AtEvent v a r b
   at-event v a r b e f =
       let k = cut t 0 h a (made r) b e in
-      let (q, o) = event-in t (0 + size t (k .before)) v (k .happening) r (k .front) (k .back) (k .inside) f (one-named (k .before) (k .happening) (k .behind) (k .split)) in
+      let (q, o) = event-in t (0 + size t (k .before)) v (k .happening) r (k .front) (k .back) (k .inside) f
+      (one-named (k .before) (k .happening) (k .behind) (k .split)) in
       record {
         before = k .before;
         cause = q .0;
@@ -352,10 +379,12 @@ module _ (t : Lists) (h : List Happening) (n : Named (gathers t) h) where
       → (s : ℕ) × (rest : List Moment) × (b ≡ made (labelled s (events.time u)) ∷ rest)
   at-time a u b e =
       let k = cut t 0 h a (said (time u)) b e in
-      let (s, f) = time-in t u (0 + size t (k .before)) (k .happening) (k .front) (k .back) (k .inside) (one-named (k .before) (k .happening) (k .behind) (k .split)) in
+      let (s, f) = time-in t u (0 + size t (k .before)) (k .happening) (k .front) (k .back) (k .inside)
+      (one-named (k .before) (k .happening) (k .behind) (k .split)) in
       (s, trace t (k .from) (k .behind), k .right ∙ ap (λ z. z ++ trace t (k .from) (k .behind)) f)
 
-  pub before-time : (a : List Moment) (r : Labelled) (b : List Moment) → trace t 0 h ≡ a ++ made r ∷ b → isTime (recordAt (r .bytes) 0) ≡ true
+  pub before-time : (a : List Moment) (r : Labelled) (b : List Moment) → trace t 0 h ≡ a ++ made r ∷ b
+      → isTime (recordAt (r .bytes) 0) ≡ true
       → (before : List Moment) × (u : ℕ) × (a ≡ before ++ said (time u) ∷ [])
   before-time a r b e f =
       let k = cut t 0 h a (made r) b e in

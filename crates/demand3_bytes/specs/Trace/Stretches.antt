@@ -1,4 +1,5 @@
--- Stretches of a trace without an event of a vector, a step's end or a write of a bit, and the same of that vector's own part.
+-- Stretches of a trace without an event of a vector, a step's end or a write of a bit, and the same of that
+-- vector's own part.
 -- Assumes nothing.
 use Prim.Native.Nat.{ℕ, suc, _+_, _-_}
 use mathlib.Core.Path.{_≡_, refl, sym, ap, _∙_}
@@ -36,46 +37,69 @@ module _ (t : Lists) (v : ℕ) where
   quiet-own s [] q = rw (own-same v []) tt
   quiet-own s (at u ∷ h) q = rw own-at (refl, quiet-own _ h (q .1 .1))
   quiet-own s (single i x p ∷ h) q = rw own-single (quiet-own _ h (q .1 .1))
-  quiet-own s (of u (began w) ∷ h) q = of-either u (λ e. rw (← e, own-of) (refl, quiet-own _ h (q .1))) (λ e. rw (own-not v h u (began w) (eqb-false v u e)) (quiet-own _ h (q .1)))
-  quiet-own s (of u (wrote w) ∷ h) q = of-either u (λ e. rw (← e, own-of) (refl, quiet-own _ h (q .1))) (λ e. rw (own-not v h u (wrote w) (eqb-false v u e)) (quiet-own _ h (q .1)))
+  quiet-own s (of u (began w) ∷ h) q =
+      of-either u (λ e. rw (← e, own-of) (refl, quiet-own _ h (q .1)))
+      (λ e. rw (own-not v h u (began w) (eqb-false v u e)) (quiet-own _ h (q .1)))
+  quiet-own s (of u (wrote w) ∷ h) q =
+      of-either u (λ e. rw (← e, own-of) (refl, quiet-own _ h (q .1)))
+      (λ e. rw (own-not v h u (wrote w) (eqb-false v u e)) (quiet-own _ h (q .1)))
   quiet-own s (of u (shown c l) ∷ h) q =
-      of-either u (λ e. absurd (eqb-false (suc u) (suc v) (q .0) (ap suc (sym e)))) (λ e. rw (own-not v h u (shown c l) (eqb-false v u e)) (quiet-own _ h (q .1)))
-  quiet-own s (of u over ∷ h) q = of-either u (λ e. rw (← e, own-of) (refl, quiet-own _ h (q .1))) (λ e. rw (own-not v h u over (eqb-false v u e)) (quiet-own _ h (q .1)))
+      of-either u (λ e. absurd (eqb-false (suc u) (suc v) (q .0) (ap suc (sym e))))
+      (λ e. rw (own-not v h u (shown c l) (eqb-false v u e)) (quiet-own _ h (q .1)))
+  quiet-own s (of u over ∷ h) q =
+      of-either u (λ e. rw (← e, own-of) (refl, quiet-own _ h (q .1)))
+      (λ e. rw (own-not v h u over (eqb-false v u e)) (quiet-own _ h (q .1)))
   quiet-own s (ends ∷ h) q = rw own-ends (refl, quiet-own _ h (q .1))
 
-  pub quiet-trace : (s : ℕ) (h : List Happening) → history.Without isEvent (own v h) → Without (isEventOf v) (trace t s h)
+  pub quiet-trace : (s : ℕ) (h : List Happening) → history.Without isEvent (own v h)
+      → Without (isEventOf v) (trace t s h)
   unfolding trace moments itemMoments labelled labelOf isEventOf Without history.Without isEvent
   quiet-trace s [] q = tt
   quiet-trace s (at u ∷ h) q = let r = rw own-at at q in (refl, (eqb·zero-suc v, quiet-trace _ h (r .1)))
-  quiet-trace s (single i x p ∷ h) q = (refl, (rw (alone-label (nth (t .kinds) i) (nth (t .refs) i) x) (eqb·zero-suc v), quiet-trace _ h (rw own-single at q)))
+  quiet-trace s (single i x p ∷ h) q = (
+    refl,
+    (
+      rw (alone-label (nth (t .kinds) i) (nth (t .refs) i) x) (eqb·zero-suc v),
+      quiet-trace _ h
+          (rw own-single at q),
+    ),
+  )
   quiet-trace s (of u (began w) ∷ h) q =
-      of-either u (λ e. let r = rw (← e, own-of) at q in (refl, quiet-trace _ h (r .1))) (λ e. (refl, quiet-trace _ h (rw (own-not v h u (began w) (eqb-false v u e)) at q)))
+      of-either u (λ e. let r = rw (← e, own-of) at q in (refl, quiet-trace _ h (r .1)))
+      (λ e. (refl, quiet-trace _ h (rw (own-not v h u (began w) (eqb-false v u e)) at q)))
   quiet-trace s (of u (wrote w) ∷ h) q =
-      of-either u (λ e. let r = rw (← e, own-of) at q in (refl, quiet-trace _ h (r .1))) (λ e. (refl, quiet-trace _ h (rw (own-not v h u (wrote w) (eqb-false v u e)) at q)))
+      of-either u (λ e. let r = rw (← e, own-of) at q in (refl, quiet-trace _ h (r .1)))
+      (λ e. (refl, quiet-trace _ h (rw (own-not v h u (wrote w) (eqb-false v u e)) at q)))
   quiet-trace s (of u (shown c l) ∷ h) q =
-      of-either u (λ e. let r = rw (← e, own-of) at q in absurd (true≢false (r .0))) (λ e. (other-label u e, quiet-trace _ h (rw (own-not v h u (shown c l) (eqb-false v u e)) at q)))
+      of-either u (λ e. let r = rw (← e, own-of) at q in absurd (true≢false (r .0)))
+      (λ e. (other-label u e, quiet-trace _ h (rw (own-not v h u (shown c l) (eqb-false v u e)) at q)))
   quiet-trace s (of u over ∷ h) q =
-      of-either u (λ e. let r = rw (← e, own-of) at q in (refl, quiet-trace _ h (r .1))) (λ e. (refl, quiet-trace _ h (rw (own-not v h u over (eqb-false v u e)) at q)))
+      of-either u (λ e. let r = rw (← e, own-of) at q in (refl, quiet-trace _ h (r .1)))
+      (λ e. (refl, quiet-trace _ h (rw (own-not v h u over (eqb-false v u e)) at q)))
   quiet-trace s (ends ∷ h) q = let r = rw own-ends at q in (refl, quiet-trace _ h (r .1))
 
   -- ---- no step's end
 
-  pub within-step : (s : ℕ) (h : List Happening) → Named (gathers t) h → history.Without isClosing (own v h) → Without isStepEnd (trace t s h)
+  pub within-step : (s : ℕ) (h : List Happening) → Named (gathers t) h → history.Without isClosing (own v h)
+      → Without isStepEnd (trace t s h)
   unfolding trace moments itemMoments isStepEnd Without history.Without isClosing Named
   within-step s [] n q = tt
   within-step s (at u ∷ h) n q = let r = rw own-at at q in (refl, (refl, within-step _ h n (r .1)))
   within-step s (single i x p ∷ h) n q = (refl, (refl, within-step _ h (n .1) (rw own-single at q)))
   within-step s (of u (began w) ∷ h) n q = absurd n
   within-step s (of u (wrote w) ∷ h) n q =
-      of-either u (λ e. let r = rw (← e, own-of) at q in (refl, within-step _ h (n .1) (r .1))) (λ e. (refl, within-step _ h (n .1) (rw (own-not v h u (wrote w) (eqb-false v u e)) at q)))
+      of-either u (λ e. let r = rw (← e, own-of) at q in (refl, within-step _ h (n .1) (r .1)))
+      (λ e. (refl, within-step _ h (n .1) (rw (own-not v h u (wrote w) (eqb-false v u e)) at q)))
   within-step s (of u (shown c l) ∷ h) n q =
-      of-either u (λ e. let r = rw (← e, own-of) at q in absurd (true≢false (r .0))) (λ e. (refl, within-step _ h n (rw (own-not v h u (shown c l) (eqb-false v u e)) at q)))
+      of-either u (λ e. let r = rw (← e, own-of) at q in absurd (true≢false (r .0)))
+      (λ e. (refl, within-step _ h n (rw (own-not v h u (shown c l) (eqb-false v u e)) at q)))
   within-step s (of u over ∷ h) n q = absurd n
   within-step s (ends ∷ h) n q = let r = rw own-ends at q in absurd (true≢false (r .0))
 
   -- ---- no write of a bit
 
-  pub unwritten : (k s : ℕ) (h : List Happening) → Named (gathers t) h → Without (writesBit (gathers t) v k) (trace t s h) → history.Without (history.writesBit k) (own v h)
+  pub unwritten : (k s : ℕ) (h : List Happening) → Named (gathers t) h
+      → Without (writesBit (gathers t) v k) (trace t s h) → history.Without (history.writesBit k) (own v h)
   unfolding trace moments itemMoments writesBit Without history.Without history.writesBit Named
   unwritten k s [] n q = rw (own-same v []) tt
   unwritten k s (at u ∷ h) n q = rw own-at (refl, unwritten k _ h n (q .1 .1))
@@ -89,14 +113,16 @@ module _ (t : Lists) (v : ℕ) where
       rw (← e, own-of) (o, unwritten k _ h (n .1) (q .1)))
       (λ e. rw (own-not v h u (wrote w) (eqb-false v u e)) (unwritten k _ h (n .1) (q .1)))
   unwritten k s (of u (shown c l) ∷ h) n q =
-      of-either u (λ e. rw (← e, own-of) (refl, unwritten k _ h n (q .1))) (λ e. rw (own-not v h u (shown c l) (eqb-false v u e)) (unwritten k _ h n (q .1)))
+      of-either u (λ e. rw (← e, own-of) (refl, unwritten k _ h n (q .1)))
+      (λ e. rw (own-not v h u (shown c l) (eqb-false v u e)) (unwritten k _ h n (q .1)))
   unwritten k s (of u over ∷ h) n q = absurd n
   unwritten k s (ends ∷ h) n q = rw own-ends (refl, unwritten k _ h n (q .1))
 
   -- ---- a write that waits
 
   -- one that no event followed in the vector's own part, in the trace ..
-  pub waits-trace : (h : List Happening) → Named (gathers t) h → (w : Write) → histories.Waits w (own v h) → Waits (gathers t) v (trace t 0 h) (w .bit) (w .value)
+  pub waits-trace : (h : List Happening) → Named (gathers t) h → (w : Write) → histories.Waits w (own v h)
+      → Waits (gathers t) v (trace t 0 h) (w .bit) (w .value)
   unfolding trace moments itemMoments Named isInner
   waits-trace h n w (a, m, e, q) =
       let o = own-place v h a (wrote w) m refl e in
@@ -113,14 +139,16 @@ module _ (t : Lists) (v : ℕ) where
       }
 
   -- .. and back
-  pub waits-own : (h : List Happening) → Named (gathers t) h → (k x : ℕ) → Waits (gathers t) v (trace t 0 h) k x → (w : Write) × histories.Waits w (own v h) × (w .bit ≡ k) × (w .value ≡ x)
+  pub waits-own : (h : List Happening) → Named (gathers t) h → (k x : ℕ) → Waits (gathers t) v (trace t 0 h) k x
+      → (w : Write) × histories.Waits w (own v h) × (w .bit ≡ k) × (w .value ≡ x)
   waits-own h n k x q =
       let o = at-write t h n v (q .before) (q .id) x (q .pos) (q .since) (q .split) (q .vector) in (
         o .write,
         (
           own v (o .before),
           own v (o .behind),
-          ap (own v) (o .split) ∙ own-append v (o .before) (of v (wrote (o .write)) ∷ o .behind) ∙ ap (λ l. own v (o .before) ++ l) (own-of v (o .behind) (wrote (o .write))),
+          ap (own v) (o .split) ∙ own-append v (o .before) (of v (wrote (o .write)) ∷ o .behind) ∙ ap
+              (λ l. own v (o .before) ++ l) (own-of v (o .behind) (wrote (o .write))),
           quiet-own (o .from) (o .behind) (rw (o .right) at (q .none)),
         ),
         o .bit ∙ q .bit,
