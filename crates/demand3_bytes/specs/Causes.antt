@@ -2,13 +2,13 @@
 -- one at a step's end with nothing but events up to that end.
 -- Assumes nothing.
 use Prim.Native.Nat.{ℕ, zero, suc}
-use mathlib.Core.Path.{_≡_, refl, sym, ap, _∙_}
+use mathlib.Core.Path.{_≡_, refl, ap}
 use mathlib.Core.Logic.{_⊎_, inl, inr, ⊎-elim}
-use mathlib.Core.Bool.{Bool, true, false, _&&_}
+use mathlib.Core.Bool.{Bool, true, false}
 use mathlib.Core.Option.{Option, none, some, Option·none-ne-some, Option·some-injective}
 use mathlib.Core.List.{List, [], _∷_, _++_, map, append-assoc}
-use Rattle.rules.specs.Vector.{Write, put, Cause, rewritten, complete, ended, Item, began, wrote, shown, over, Vec, all, any, fires, clashes, stored, act}
-use Rattle.rules.specs.Gather.{Tables, width, Act, time, write, stepEnd, Happening, at, single, of, ends, State, with, endAll, bitWrite, toVector, toward, does, happens}
+use Rattle.rules.specs.Vector.{Write, rewritten, complete, ended, began, wrote, shown, over, Vec, any, fires, act}
+use Rattle.rules.specs.Gather.{Tables, Act, time, write, stepEnd, Happening, at, single, of, ends, State, with, endAll, bitWrite, toVector, toward, does, happens}
 
 -- nothing but events up to a step's end
 unfoldable pub UntilEnd : List Happening → Type 0

@@ -11,3 +11,4 @@ pub mod Whole
 pub mod Suited
 pub mod Watched
 pub mod Readings
+pub mod Mistakes

@@ -3,14 +3,13 @@
 use mathlib.Core.Path.{_≡_, refl, sym, ap, _∙_}
 use mathlib.Core.Logic.{_≢_}
 use mathlib.Core.Bool.{Bool, true, false, false≢true}
-use mathlib.Core.List.{List, [], _∷_, _++_, map, cons≢nil}
-use Prim.Native.Nat.{ℕ, suc}
-use native.Mathlib.Omega.{arith}
+use mathlib.Core.List.{List, [], _∷_, _++_, cons≢nil}
+use Prim.Native.Nat.{ℕ}
 use lib.Dec.{eqb, eqb·zero-suc}
 use borrow.Author.Tests.{eqb-true, eqb-false}
-use Rattle.rules.specs.Vector.{Item, began, wrote, shown, over, any, fresh, fires, act, history, actsEarly}
+use Rattle.rules.specs.Vector.{Item, began, wrote, shown, over, fresh, fires, act, history, actsEarly}
 use Rattle.rules.specs.Vector.Laws.{by-test, any-clear}
-use Rattle.rules.specs.Gather.{Tables, width, Act, time, write, stepEnd, Happening, at, single, of, ends, begin, endAll, toward, does, own}
+use Rattle.rules.specs.Gather.{Tables, width, time, write, stepEnd, Happening, at, single, of, ends, begin, endAll, toward, does, own}
 use Rattle.rules.specs.Gather.Laws.{own-append, own-same, own-other, sound-begin}
 use Rattle.rules.specs.Gather.Own.{told-nil, told-time, told-write, told-stop, own-act}
 

@@ -1,9 +1,9 @@
 -- Demand 3 on the bytes that an accepted reading leaves.
 -- Assumes nothing.
-use Prim.Native.Nat.{ℕ, _+_, _^_, _≤_, _<_}
+use Prim.Native.Nat.{ℕ, _^_, _<_}
 use mathlib.Core.Path.{_≡_, refl, sym, ap, _∙_}
 use mathlib.Core.Bool.{Bool}
-use mathlib.Core.List.{List, [], _∷_, _++_, append-nil}
+use mathlib.Core.List.{List, [], _++_, append-nil}
 use native.Mathlib.Omega.{arith}
 use lib.ListN.{length, length-take}
 use Rattle.states.specs.Kind.{bits}
@@ -12,10 +12,9 @@ use Rattle.tables.specs.declared.Check.{Check}
 use Rattle.tables.specs.declared.Check.the-variants.{Passed, Refused}
 use Rattle.tables.specs.Good.Laws.{limited, good}
 use Rattle.rules.specs.Vector.{actsEarly}
-use Rattle.rules.specs.Gather.{Good, Act, Happening, begin, happens, own}
+use Rattle.rules.specs.Gather.{Good, Happening, begin, happens, own}
 use Rattle.rules.specs.Gather.Echo.{nothing-lost}
 use Rattle.rules.specs.Demand3 as whole
-use Rattle.records.specs.Event.{Event}
 use Rattle.gather.specs.Run.{gathers, eventsOf, Scan, acts}
 use Rattle.gather.specs.Run.Rendered.{rendered, valuesOf}
 use Rattle.gather.specs.Run.Events.{made}
@@ -27,7 +26,7 @@ use Rattle.entries.specs.Entries.{readSections, readChanges}
 use Rattle.entries.specs.Entries.Numbers.{checks-number}
 use Rattle.entries.specs.Entries.Reads.{checksOf, eventsFrom}
 use Rattle.entries.specs.Demands.{Demand1, Demand2, sections-1, sections-2, sections-3, changes-1, changes-2, changes-3}
-use Rattle.demand3_bytes.specs.Statements.{Labelled, RecordsOf, stateIn, Demand3, eventsIn, valuesIn, OnBytes}
+use Rattle.demand3_bytes.specs.Statements.{stateIn, Demand3, eventsIn, valuesIn, OnBytes}
 use Rattle.demand3_bytes.specs.Trace.{labelledFrom, size, trace, trace-made, trace-said}
 use Rattle.demand3_bytes.specs.Stored.{SmallItems, shown-small}
 use Rattle.demand3_bytes.specs.Suited.{Suited, sections-suited, changes-suited}

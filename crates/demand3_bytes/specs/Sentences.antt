@@ -1,26 +1,20 @@
 -- Demand 3's sentences hold of the trace of what the gatherer does with whole steps over good tables.
 -- Assumes nothing.
-use Prim.Native.Nat.{ℕ, suc, _+_, _-_, _^_, _≤_, _<_}
+use Prim.Native.Nat.{ℕ, suc, _+_, _-_, _^_, _<_}
 use mathlib.Core.Path.{_≡_, refl, sym, ap, _∙_}
-use mathlib.Core.Logic.{_≢_, _⊎_, inl, inr, ⊎-elim}
-use mathlib.Core.Bool.{Bool, true, false, true≢false}
+use mathlib.Core.Logic.{_⊎_, inl, inr}
+use mathlib.Core.Bool.{Bool}
 use mathlib.Core.Option.{none}
-use mathlib.Core.List.{List, [], _∷_, _++_, map, append-assoc}
-use native.Mathlib.Omega.{arith}
-use borrow.Author.Tests.{eqb-false, eq-eqb}
-use lib.Dec.{eqb, T}
-use lib.ListN.{length, getD}
+use mathlib.Core.List.{List, [], _∷_, _++_, append-assoc}
+use borrow.Author.Tests.{eqb-false}
+use lib.ListN.{getD}
 use Rattle.states.specs.Kind.{bits}
-use Rattle.states.specs.Packed.Bytes.{Small}
 use Rattle.tables.specs.Lists.{Lists}
 use Rattle.rules.specs.Vector.{Write, Cause, rewritten, complete, ended, Item, began, wrote, shown, over}
-use Rattle.rules.specs.Gather.{Tables, width, Good, Act, time, write, stepEnd, Happening, at, single, of, ends, begin, bitWrite, happens, own}
+use Rattle.rules.specs.Gather.{Tables, width, Good, Act, time, write, Happening, at, single, of, ends, begin, bitWrite, happens, own}
 use Rattle.rules.specs.Gather.Laws.{own-append}
 use Rattle.rules.specs.Gather.Own.{bit-inside}
-use Rattle.rules.specs.Gather.Echo.{echo, nothing-lost}
-use Rattle.rules.specs.History.{isEvent}
-use Rattle.rules.specs.History as history
-use Rattle.rules.specs.History.Laws as histories
+use Rattle.rules.specs.Gather.Echo.{nothing-lost}
 use Rattle.rules.specs.History.Laws.{closing-event}
 use Rattle.rules.specs.Owned.Laws.{EventFirst}
 use Rattle.rules.specs.Demand3 as whole
@@ -31,12 +25,12 @@ use Rattle.gather.specs.Run.{gathers, eventsOf}
 use Rattle.gather.specs.Run.Rendered.{valuesOf}
 use Rattle.demand3_bytes.specs.Statements.{Labelled, shows, stateIn, Shows, Moment, said, made, labelOf, isEventOf, isStepEnd, isSaid, bitOf, writesBit, Without, First, Waits, ByRewrite, ByCompletion, ByEnd, Sentences}
 use Rattle.demand3_bytes.specs.Own.{own-of, own-place, isInner}
-use Rattle.demand3_bytes.specs.Trace.{labelled, eventOf, itemMoments, moments, size, trace, trace-append, trace-said}
+use Rattle.demand3_bytes.specs.Trace.{labelled, eventOf, itemMoments, moments, size, trace, trace-append}
 use Rattle.demand3_bytes.specs.Trace.Cuts.{Named, named, named-append, AtWrite, AtEvent, at-write, at-event, at-time, before-time}
 use Rattle.demand3_bytes.specs.Trace.Stretches.{quiet-own, quiet-trace, within-step, unwritten, waits-trace, waits-own}
 use Rattle.demand3_bytes.specs.Bits.{shows-event}
 use Rattle.demand3_bytes.specs.Stored.{SmallItems, small-at}
-use Rattle.demand3_bytes.specs.Causes.{UntilEnd, Prompt, prompt, Next, at-end, at-complete, at-rewrite}
+use Rattle.demand3_bytes.specs.Causes.{UntilEnd, Prompt, prompt, at-end, at-complete, at-rewrite}
 
 -- ---- two first events of a vector are one
 

@@ -2,24 +2,24 @@
 -- is in its kind's range.
 -- Assumes nothing.
 use Prim.Native.Nat.{ℕ, zero, suc, _-_, _^_, _≤_, _<_}
-use mathlib.Core.Path.{_≡_, refl, sym, ap, _∙_}
+use mathlib.Core.Path.{_≡_}
 use mathlib.Core.Logic.{⊎-elim}
-use mathlib.Core.Bool.{Bool, true, false, _&&_}
+use mathlib.Core.Bool.{Bool, true, false}
 use mathlib.Core.List.{List, [], _∷_, _++_, append-assoc}
 use native.Mathlib.Omega.{arith}
 use native.Mathlib.Decide.{ℕ-discrete}
 use borrow.Author.Tests.{eqb-true}
 use lib.Dec.{eqb}
-use lib.ListN.{length, getD, set, replicate}
+use lib.ListN.{length, getD, set}
 use lib.Pow.{pow-pos}
 use Rattle.slices.specs.Choice.{cond-ind, le-or-lt}
-use Rattle.states.specs.Kind.{bits, stateOf}
+use Rattle.states.specs.Kind.{bits}
 use Rattle.states.specs.Packed.Bytes.{getD-past}
 use Rattle.tables.specs.Lists.{Lists, nth}
 use Rattle.tables.specs.Good.{Sized, Signals, Bit}
 use Rattle.values.specs.Value.{mostOf}
-use Rattle.rules.specs.Vector.{Write, Op, start, put, stop, Cause, rewritten, complete, ended, Item, began, wrote, shown, over, Vec, all, any, fresh, cleared, fires, clashes, stored, act, history}
-use Rattle.rules.specs.Gather.{Tables, width, Act, time, write, stepEnd, begin, bitWrite, happens, own, told}
+use Rattle.rules.specs.Vector.{Write, Op, start, put, stop, Cause, rewritten, complete, ended, Item, began, wrote, shown, over, Vec, fresh, cleared, fires, clashes, stored, act, history}
+use Rattle.rules.specs.Gather.{width, Act, time, write, stepEnd, begin, bitWrite, happens, own, told}
 use Rattle.rules.specs.Gather.Own.{told-nil, told-time, told-write, told-stop, own-history}
 use Rattle.gather.specs.Run.{gathers}
 use Rattle.demand3_bytes.specs.Statements.{stateIn}

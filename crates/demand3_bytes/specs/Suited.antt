@@ -1,14 +1,14 @@
 -- Every write that a scan says has an id of the table and a value that its signal's kind can take:
 -- of section bytes, and of change records.
 -- Assumes nothing.
-use Prim.Native.Nat.{ℕ, zero, suc, _+_, _^_, _≤_, _<_}
+use Prim.Native.Nat.{ℕ, zero, suc, _+_, _≤_}
 use mathlib.Core.Path.{_≡_, refl}
 use mathlib.Core.Bool.{Bool, true, false, cond}
 use mathlib.Core.List.{List}
 use native.Mathlib.Omega.{arith}
 use borrow.Author.Tests.{leb-true, eqb-false}
 use lib.ListN.{length, replicate}
-use lib.Dec.{ltb, leb, eqb}
+use lib.Dec.{leb, eqb}
 use Rattle.slices.specs.Choice.{cond-ind}
 use Rattle.slices.specs.Splice.{part}
 use Rattle.numbers.specs.Fixed.{fixed, negative}
@@ -20,7 +20,7 @@ use Rattle.values.specs.declared.Read.{Read}
 use Rattle.values.specs.declared.Read.the-variants.{Value, Bad}
 use Rattle.values.specs.Value.{onRead, unsigned, value, Suits}
 use Rattle.values.specs.Value.Laws.{value-suits}
-use Rattle.rules.specs.Gather.{Act, time, write, stepEnd}
+use Rattle.rules.specs.Gather.{time, write, stepEnd}
 use Rattle.gather.specs.Run.{Scan, say, done, fault, and-then}
 use Rattle.section_parts.specs.declared.NextId.{NextId}
 use Rattle.section_parts.specs.declared.NextId.the-variants as ids
@@ -86,7 +86,8 @@ module _ (t : Lists) where
       where
         go : (r : Read)
             → IdFound
-            (onRead r ids.Bad (λ d j. cond (eqb d 0) (ids.End j) (cond (leb (id + d) (signals t)) (ids.Id (id + d) j) (ids.Bad 13 i))))
+            (onRead r ids.Bad (λ d j. cond (eqb d 0) (ids.End j)
+            (cond (leb (id + d) (signals t)) (ids.Id (id + d) j) (ids.Bad 13 i))))
         go (Value d j) =
             cond-ind (eqb d 0) _ _ IdFound (λ e. tt)
             (λ e. cond-ind (leb (id + d) (signals t)) _ _ IdFound

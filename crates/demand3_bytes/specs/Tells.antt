@@ -2,7 +2,7 @@
 -- Assumes nothing.
 use Prim.Native.Nat.{ℕ, suc, _+_, _^_, _<_}
 use mathlib.Core.Path.{_≡_, refl, sym, ap, _∙_}
-use mathlib.Core.Bool.{Bool, true, false}
+use mathlib.Core.Bool.{Bool, false}
 use mathlib.Core.List.{List, [], _∷_, _++_, append-assoc, append-nil}
 use native.Mathlib.Nat.{add-zero}
 use native.Mathlib.Omega.{arith}
@@ -11,9 +11,9 @@ use lib.Dec.{eqb, eqb·zero-suc}
 use lib.ListN.{length, getD}
 use Rattle.states.specs.Kind.{bits}
 use Rattle.tables.specs.Lists.{Lists, nth}
-use Rattle.rules.specs.Vector.{Cause, Item, began, wrote, shown, over}
+use Rattle.rules.specs.Vector.{Cause, began, wrote, shown, over}
 use Rattle.rules.specs.Vector.Laws.{by-test}
-use Rattle.rules.specs.Gather.{Tables, width, Good, Act, Happening, at, single, of, ends, own}
+use Rattle.rules.specs.Gather.{width, Good, Act, Happening, at, single, of, ends, own}
 use Rattle.rules.specs.Gather.Laws.{own-same}
 use Rattle.rules.specs.Demand3 as whole
 use Rattle.records.specs.declared.Record.the-variants.{Time}
@@ -22,12 +22,12 @@ use Rattle.records.specs.Event as events
 use Rattle.records.specs.Stream.{recordAt, isTime}
 use Rattle.gather.specs.Run.{gathers, eventsOf, ofVector}
 use Rattle.gather.specs.Run.Rendered.{valuesOf}
-use Rattle.demand3_bytes.specs.Statements.{Labelled, labelOf, stateIn, Shows, partOf, Tells}
+use Rattle.demand3_bytes.specs.Statements.{Labelled, labelOf, stateIn, partOf, Tells}
 use Rattle.demand3_bytes.specs.Own.{own-at, own-single, own-ends, own-of, own-not}
 use Rattle.demand3_bytes.specs.Trace.{labelled, labelledFrom, eventOf, aloneEvent, size, size-nil, size-append}
 use Rattle.demand3_bytes.specs.Trace.Cuts.{Named, alone-label, value-no-time, alone-no-time}
 use Rattle.demand3_bytes.specs.Stored.{SmallItems}
-use Rattle.demand3_bytes.specs.Sentences.{happened, tables, all-named, named-behind, shows-at}
+use Rattle.demand3_bytes.specs.Sentences.{happened, named-behind, shows-at}
 
 -- ---- which records are of a vector's part
 

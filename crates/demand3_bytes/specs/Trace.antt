@@ -1,15 +1,15 @@
 -- The acts and the labelled records of what happens, in one order.
 -- Assumes nothing.
-use Prim.Native.Nat.{ℕ, zero, suc, _+_, _-_, _≤_}
+use Prim.Native.Nat.{ℕ, zero, suc, _+_, _-_}
 use mathlib.Core.Path.{_≡_, refl, sym, ap, _∙_}
 use mathlib.Core.List.{List, [], _∷_, _++_, map, append-assoc, append-nil}
-use native.Mathlib.Nat.{add-zero, zero-add, add-assoc}
+use native.Mathlib.Nat.{add-zero}
 use native.Mathlib.Omega.{arith}
 use lib.ListN.{length, getD, length-append}
 use Rattle.states.specs.Packed.{packed}
 use Rattle.tables.specs.Lists.{Lists, nth}
 use Rattle.rules.specs.Vector.{Item, began, wrote, shown, over}
-use Rattle.rules.specs.Gather.{Tables, Good, Act, time, write, stepEnd, Happening, at, single, of, ends, bitWrite}
+use Rattle.rules.specs.Gather.{Good, Act, time, write, stepEnd, Happening, at, single, of, ends, bitWrite}
 use Rattle.rules.specs.Gather.Echo.{writeEcho, echo, echoes}
 use Rattle.records.specs.Event.{Event, value, recordOf, recordBytes, eventValue}
 use Rattle.records.specs.Event as events

@@ -4,25 +4,25 @@
 use Prim.Native.Nat.{ℕ, zero, suc, _+_, _*_, _≤_, _<_}
 use mathlib.Core.Path.{_≡_, refl, sym, ap, _∙_}
 use mathlib.Core.Logic.{_≢_}
-use mathlib.Core.Bool.{Bool, true, false, cond, _&&_}
+use mathlib.Core.Bool.{cond}
 use mathlib.Core.Option.{some}
 use mathlib.Core.List.{List, [], _∷_, _++_, map}
 use native.Mathlib.Omega.{arith}
-use borrow.Author.Tests.{le-leb, eq-eqb, eqb-true, eqb-false}
-use lib.Dec.{leb, eqb}
+use borrow.Author.Tests.{le-leb, eq-eqb, eqb-true}
+use lib.Dec.{eqb}
 use lib.ListN.{length, getD, length-append}
 use Rattle.slices.specs.Choice.{cond-ind}
 use Rattle.states.specs.declared.States.the-variants.{Nine}
 use Rattle.tables.specs.Lists.{Lists, nth, signals}
-use Rattle.values.specs.Value.{mostOf, Suits}
+use Rattle.values.specs.Value.{mostOf}
 use Rattle.rules.specs.Vector.{Vec, fresh, actsEarly}
-use Rattle.rules.specs.Gather.{Act, time, write, stepEnd, Happening, at, single, of, ends, State, endAll, toward, does, happens}
+use Rattle.rules.specs.Gather.{Act, time, write, stepEnd, at, State, endAll, toward, does, happens}
 use Rattle.records.specs.Event.{Event, value, real, recordOf, recordBytes, eventValue}
 use Rattle.records.specs.Event as events
 use Rattle.records.specs.Event.Laws.{length-time, length-value, length-real}
 use Rattle.records.specs.Out.{Rooms, Out, empty, fits, appended, append, appendAll}
 use Rattle.records.specs.Out.Laws.{length-record}
-use Rattle.gather.specs.Run.{gathers, alone, eventsOf, Scan, say, done, fault, acts, went, out, fitted, acted, after, run}
+use Rattle.gather.specs.Run.{gathers, alone, eventsOf, Scan, say, done, fault, acts, went, fitted, acted, after, run}
 use Rattle.gather.specs.Run.Rendered.{valuesOf}
 use Rattle.gather.specs.Run.Events.{Ends, made}
 use Rattle.gather.specs.Run.Events.Laws as running

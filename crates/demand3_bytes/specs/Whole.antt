@@ -1,19 +1,17 @@
 -- The records of an output are known from its bytes: a list of whole records is the only one with its bytes and labels.
 -- Assumes nothing.
-use Prim.Native.Nat.{ℕ, zero, suc, _+_, _≤_, _<_}
+use Prim.Native.Nat.{ℕ, _+_, _<_}
 use mathlib.Core.Path.{_≡_, refl, sym, ap, _∙_}
 use mathlib.Core.List.{List, [], _∷_, _++_, cons≢nil}
 use native.Mathlib.Omega.{arith}
-use lib.ListN.{length, getD, take, drop, length-append, List·getD-append}
+use lib.ListN.{length, getD, take, drop, List·getD-append}
 use lib.Seq.{take-at, drop-at}
-use Rattle.states.specs.declared.States.{States}
 use Rattle.states.specs.declared.States.the-variants.{Two, Nine}
-use Rattle.records.specs.declared.Record.the-variants.{Time, Value, Real}
 use Rattle.records.specs.Event.{Event, time, value, real, recordOf, recordBytes, eventValue}
 use Rattle.records.specs.Event.Laws.{length-time, length-value, length-real}
 use Rattle.records.specs.Stream.{eventLength}
 use Rattle.gather.specs.Run.Rendered.{rendered}
-use Rattle.demand3_bytes.specs.Statements.{Labelled, joined, labels, Whole, labelsOf, RecordsOf}
+use Rattle.demand3_bytes.specs.Statements.{Labelled, joined, labels, Whole, RecordsOf}
 use Rattle.demand3_bytes.specs.Trace.{labelled, labelledFrom, joined-rendered, labels-labelled}
 
 same : (r q : Labelled) → r .label ≡ q .label → r .bytes ≡ q .bytes → r ≡ q

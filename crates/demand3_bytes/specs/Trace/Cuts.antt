@@ -3,15 +3,14 @@
 use Prim.Native.Nat.{ℕ, zero, suc, _+_, _-_}
 use mathlib.Core.Path.{_≡_, refl, sym, ap, _∙_}
 use mathlib.Core.Logic.{_⊎_, inl, inr, ⊎-elim}
-use mathlib.Core.Bool.{Bool, true, false, true≢false}
+use mathlib.Core.Bool.{true, false, true≢false}
 use mathlib.Core.List.{List, [], _∷_, _++_, map, append-assoc, append-nil, cons≢nil}
-use native.Mathlib.Nat.{add-zero, zero-add, add-assoc}
+use native.Mathlib.Nat.{add-zero, zero-add}
 use native.Mathlib.Omega.{arith}
-use lib.ListN.{length, getD}
 use lib.Dec.{leb, eqb}
 use Rattle.slices.specs.Choice.{cond-ind}
 use Rattle.tables.specs.Lists.{Lists, nth}
-use Rattle.rules.specs.Vector.{Write, Cause, Item, began, wrote, shown, over}
+use Rattle.rules.specs.Vector.{Write, Cause, began, wrote, shown, over}
 use Rattle.rules.specs.Gather.{Tables, Good, Act, time, write, stepEnd, Happening, at, single, of, ends, bitWrite}
 use Rattle.rules.specs.Gather.Echo.{writeEcho, echo, echoes}
 use Rattle.states.specs.declared.States.{States}
@@ -22,7 +21,7 @@ use Rattle.records.specs.Stream.{recordAt, isTime}
 use Rattle.records.specs.Event as events
 use Rattle.gather.specs.Run.{gathers, alone}
 use Rattle.demand3_bytes.specs.Statements.{Labelled, labelOf, stateIn, Moment, said, made, bitOf}
-use Rattle.demand3_bytes.specs.Trace.{labelled, eventOf, aloneEvent, itemMoments, moments, size, size-nil, size-append, trace}
+use Rattle.demand3_bytes.specs.Trace.{labelled, eventOf, itemMoments, moments, size, size-nil, size-append, trace}
 
 -- ---- lists cut at a place
 

@@ -3,21 +3,21 @@
 -- Assumes nothing.
 use Prim.Native.Nat.{ℕ, suc, _+_, _-_}
 use mathlib.Core.Path.{_≡_, refl, sym, ap, _∙_}
-use mathlib.Core.Bool.{Bool, true, false, true≢false, false≢true, _&&_}
+use mathlib.Core.Bool.{false, true≢false}
 use mathlib.Core.List.{List, [], _∷_, _++_}
 use native.Mathlib.Omega.{arith}
 use lib.Dec.{eqb, eqb·zero-suc}
 use borrow.Author.Tests.{eqb-true, eqb-false, eq-eqb, ne-eqb}
 use Rattle.tables.specs.Lists.{Lists, nth}
-use Rattle.rules.specs.Vector.{Write, Item, began, wrote, shown, over}
+use Rattle.rules.specs.Vector.{Write, began, wrote, shown, over}
 use Rattle.rules.specs.Vector.Laws.{by-test}
-use Rattle.rules.specs.Gather.{Tables, Happening, at, single, of, ends, own}
+use Rattle.rules.specs.Gather.{Happening, at, single, of, ends, own}
 use Rattle.rules.specs.Gather.Laws.{own-same, own-append}
 use Rattle.rules.specs.History as history
 use Rattle.rules.specs.History.{isEvent, isClosing}
 use Rattle.rules.specs.History.Laws as histories
 use Rattle.gather.specs.Run.{gathers}
-use Rattle.demand3_bytes.specs.Statements.{labelOf, Moment, said, made, isEventOf, isStepEnd, bitOf, writesBit, Without, Waits}
+use Rattle.demand3_bytes.specs.Statements.{labelOf, isEventOf, isStepEnd, writesBit, Without, Waits}
 use Rattle.demand3_bytes.specs.Own.{own-at, own-single, own-ends, own-of, own-not, isInner, own-place}
 use Rattle.demand3_bytes.specs.Trace.{labelled, itemMoments, moments, size, trace, trace-append}
 use Rattle.demand3_bytes.specs.Trace.Cuts.{Named, named-append, alone-label, at-write}
