@@ -1,0 +1,14 @@
+-- Assumes nothing.
+pub mod Statements
+pub mod Own
+pub mod Trace
+pub mod Bits
+pub mod Stored
+pub mod Causes
+pub mod Sentences
+pub mod Tells
+pub mod Whole
+pub mod Suited
+pub mod Watched
+pub mod Readings
+pub mod Mistakes
