@@ -1,10 +1,10 @@
 -- Outputs that demand 3 rules out, whatever the order of acts and records: a write without its event, and an event
 -- that shows another value than the one that was written.
 -- Assumes nothing.
-use Prim.Native.Nat.{ℕ, suc}
+use Prim.Native.Nat.{ℕ}
 use mathlib.Core.Path.{_≡_, refl, sym, ap, _∙_}
 use mathlib.Core.Logic.{_⊎_, inl, inr, ⊎-elim}
-use mathlib.Core.Bool.{Bool, false}
+use mathlib.Core.Bool.{Bool}
 use mathlib.Core.List.{List, [], _∷_, _++_, append-assoc, cons≢nil}
 use native.Mathlib.Omega.{arith}
 use Rattle.states.specs.declared.States.the-variants.{Two}
