@@ -67,7 +67,8 @@ by-end t s (ends ∷ h) u = record { records = []; rest = trace t (s + size t (e
 abbrev pub Comes : ℕ → List Moment → Type 0
 Comes v b = (m : List Moment) × (r : Labelled) × (rest : List Moment) × First v b m r rest × Without isStepEnd m
 
-pub comes : (t : Lists) (v s : ℕ) (h : List Happening) → Named (gathers t) h → EventFirst (own v h) → Comes v (trace t s h)
+pub comes : (t : Lists) (v s : ℕ) (h : List Happening) → Named (gathers t) h → EventFirst (own v h)
+    → Comes v (trace t s h)
 unfolding trace moments itemMoments isInner labelled labelOf
 comes t v s h n (m, c, l, rest, q, w) =
     let o = own-place v h m (shown c l) rest refl q in (
