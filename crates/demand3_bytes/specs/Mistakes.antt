@@ -1,7 +1,7 @@
--- Outputs that demand 3 rules out, whatever the order of acts and records: a write without its event, and an event
--- that shows another value than the one that was written.
+-- Outputs that demand 3 rules out, whatever the order of acts and records: a write without its event, an event that
+-- shows another value than the one that was written, and the labels of two vectors the wrong way round.
 -- Assumes nothing.
-use Prim.Native.Nat.{ℕ, suc}
+use Prim.Native.Nat.{ℕ, suc, _+_}
 use mathlib.Core.Path.{_≡_, refl, sym, ap, _∙_}
 use mathlib.Core.Logic.{_⊎_, inl, inr, ⊎-elim}
 use mathlib.Core.Bool.{Bool, false}
@@ -16,7 +16,7 @@ use Rattle.rules.specs.Gather.{Tables, Act, time, write, stepEnd}
 use Rattle.records.specs.declared.Record.the-variants.{Time, Value}
 use Rattle.records.specs.Event.{recordBytes}
 use Rattle.records.specs.Stream.{recordAt}
-use Rattle.demand3_bytes.specs.Statements.{Labelled, bitIn, shows, Moment, said, made, saidIn, madeIn, writesBit, Without, Demand3}
+use Rattle.demand3_bytes.specs.Statements.{Labelled, bitIn, shows, Moment, said, made, saidIn, madeIn, bitOf, writesBit, Without, Demand3}
 
 -- ---- places in an order
 
@@ -50,85 +50,119 @@ place (said x ∷ o) [] a r e = let f : x ≡ a = cc in ([], o, ap (λ z. said z
 place (said x ∷ o) (y ∷ l) a r e = let f : x ≡ y = cc in rw (← f) (further (said x) o l a r (place o l a r (cc)))
 place (made x ∷ o) l a r e = further (made x) o l a r (place o l a r e)
 
--- an order that says nothing but a step's end writes nothing
-unwritten : (t : Tables) (v k : ℕ) (m : List Moment) (rest : List Act) → saidIn m ++ rest ≡ stepEnd ∷ []
-    → Without (writesBit t v k) m
-unfolding saidIn Without writesBit
-unwritten t v k [] rest e = tt
-unwritten t v k (said (time u) ∷ m) rest e = let z : _≡_ {A = ℕ} 0 1 = cc in absurd (omega arith)
-unwritten t v k (said (write i x p) ∷ m) rest e = let z : _≡_ {A = ℕ} 0 1 = cc in absurd (omega arith)
-unwritten t v k (said stepEnd ∷ m) rest e = (refl, silent t v k m rest (cc))
-  where
-    silent : (t : Tables) (v k : ℕ) (m : List Moment) (rest : List Act) → saidIn m ++ rest ≡ []
-        → Without (writesBit t v k) m
-    silent t v k [] rest e = tt
-    silent t v k (said a ∷ m) rest e = absurd (cons≢nil e)
-    silent t v k (made r ∷ m) rest e = (refl, silent t v k m rest e)
-unwritten t v k (made r ∷ m) rest e = (refl, unwritten t v k m rest e)
+-- no act writes the bit
+Elsewhere : Tables → (v k : ℕ) → List Act → Type 0
+Elsewhere t v k [] = Unit {0}
+Elsewhere t v k (a ∷ acts) = (writesBit t v k (said a) ≡ false) × Elsewhere t v k acts
 
--- ---- a step in which bit 0 of a vector of two bits is written
+unwritten : (t : Tables) (v k : ℕ) (m : List Moment) (rest acts : List Act) → saidIn m ++ rest ≡ acts
+    → Elsewhere t v k acts → Without (writesBit t v k) m
+unfolding saidIn Without writesBit Elsewhere
+unwritten t v k [] rest acts e n = tt
+unwritten t v k (said a ∷ m) rest [] e n = absurd (cons≢nil e)
+unwritten t v k (said a ∷ m) rest (b ∷ acts) e n =
+    let f : a ≡ b = cc in
+    (rw f (n .0), unwritten t v k m rest acts (cc) (n .1))
+unwritten t v k (made r ∷ m) rest acts e n = (refl, unwritten t v k m rest acts e n)
 
-abbrev tables : Tables
-tables = record { vector = λ i. 1; min = λ v. 2; max = λ v. 3 }
+-- ---- the record that shows a write
 
-abbrev acts : List Act
-acts = time 0 ∷ write 3 1 0 ∷ stepEnd ∷ []
+-- a record among some that is labelled with vector v and shows x for bit k
+abbrev Shown : (v k x : ℕ) → List ℕ → List Labelled → Type 0
+Shown v k x values rs =
+    (l : List Labelled) × (r : Labelled) × (m : List Labelled) × (l ++ r ∷ m ≡ rs) × (r .label ≡ suc v) ×
+    (shows values r k ≡ x)
+
+-- a write of a bit that is not written again
+module _ (early : ℕ → Bool) (t : Tables) (l : List Act) (id x p v : ℕ) (r : List Act) (there : t .vector id ≡ suc v)
+    (last : Elsewhere t v (bitOf t v id) r) (values : List ℕ) (rs : List Labelled)
+    (d : Demand3 early t (l ++ write id x p ∷ r) values rs) where
+  is-shown : Shown v (bitOf t v id) x values rs
+  unfolding madeIn saidIn
+  is-shown =
+      let (a, y, e, f, g) = place (d .order) l (write id x p) r (d .input) in
+      let (m, q, rest, first, within) = d .sentences .first-event v a id x p y e there in
+      let all : d .order ≡ a ++ said (write id x p) ∷ (m ++ made q ∷ rest)
+      = e ∙ ap (λ z. a ++ said (write id x p) ∷ z) (first .split) in
+      let quiet : saidIn m ++ saidIn rest ≡ r
+      = sym (said-append m (made q ∷ rest)) ∙ (ap saidIn (sym (first .split)) ∙ g) in (
+        madeIn (a ++ said (write id x p) ∷ m),
+        q,
+        madeIn rest,
+        sym (made-append (a ++ said (write id x p) ∷ m) (made q ∷ rest))
+            ∙ (ap madeIn (append-assoc a (said (write id x p) ∷ m) (made q ∷ rest) ∙ sym all) ∙ d .output),
+        first .label,
+        d .sentences .shows-last v a id x p m q rest all there (first .label) (first .none)
+            (unwritten t v (bitOf t v id) m (saidIn rest) r quiet last),
+      )
+
+shown-none : (v k x : ℕ) (values : List ℕ) → Shown v k x values [] → ⊥
+shown-none v k x values ([], r, m, e, f, g) = cons≢nil e
+shown-none v k x values (q ∷ l, r, m, e, f, g) = cons≢nil e
+
+-- it is the first record, or one behind it
+shown-further : (v k x : ℕ) (values : List ℕ) (c : Labelled) (rs : List Labelled) → Shown v k x values (c ∷ rs)
+    → ((c .label ≡ suc v) × (shows values c k ≡ x)) ⊎ Shown v k x values rs
+shown-further v k x values c rs ([], r, m, e, f, g) = let h : c ≡ r = cc in inl (rw h f, rw h g)
+shown-further v k x values c rs (q ∷ l, r, m, e, f, g) = inr (l, r, m, (cc), f, g)
+
+-- ---- outputs
 
 abbrev clock : Labelled
 clock = record { label = 0; bytes = recordBytes (Time 0) }
 
--- a value record of one byte, at the start of the value bytes
-abbrev event : Labelled
-event = record { label = 1; bytes = recordBytes (Value Two 2 0 1) }
+-- a two-state record of one value byte
+abbrev event : (label start : ℕ) → Labelled
+event label start = record { label = label; bytes = recordBytes (Value Two 5 start 1) }
 
-module _ (early : ℕ → Bool) (values : List ℕ) (rs : List Labelled) (d : Demand3 early tables acts values rs) where
-  -- the event that owns the write, and the records before and behind it
-  owner : (l : List Labelled) × (r : Labelled) × (k : List Labelled) × (l ++ r ∷ k ≡ rs) × (r .label ≡ 1) ×
-      (shows values r 0 ≡ 1)
-  unfolding madeIn saidIn
-  owner =
-      let (x, y, e, f, g) = place (d .order) (time 0 ∷ []) (write 3 1 0) (stepEnd ∷ []) (d .input) in
-      let (m, r, rest, first, within) = d .sentences .first-event 0 x 3 1 0 y e refl in
-      let all : d .order ≡ x ++ said (write 3 1 0) ∷ (m ++ made r ∷ rest) = e ∙ ap (λ z. x ++ said (write 3 1 0) ∷ z)
-      (first .split) in
-      let quiet : saidIn m ++ saidIn rest ≡ stepEnd ∷ [] = sym (said-append m (made r ∷ rest)) ∙
-      (ap saidIn (sym (first .split)) ∙ g) in (
-        madeIn (x ++ said (write 3 1 0) ∷ m),
-        r,
-        madeIn rest,
-        sym (made-append (x ++ said (write 3 1 0) ∷ m) (made r ∷ rest)) ∙
-            (ap madeIn (append-assoc x (said (write 3 1 0) ∷ m) (made r ∷ rest) ∙ sym all) ∙ d .output),
-        first .label,
-        d .sentences .shows-last 0 x 3 1 0 m r rest all refl (first .label) (first .none)
-            (unwritten tables 0 0 m (saidIn rest) quiet),
-      )
+abbrev one : Tables
+one = record { vector = λ i. 1; min = λ v. 2; max = λ v. 3 }
 
-one-of-one : (l : List Labelled) (r : Labelled) (k : List Labelled) (c : Labelled) → l ++ r ∷ k ≡ c ∷ [] → r ≡ c
-one-of-one [] r k c e = cc
-one-of-one (x ∷ []) r k c e = let f : r ∷ k ≡ [] = cc in absurd (cons≢nil f)
-one-of-one (x ∷ y ∷ l) r k c e = let f : y ∷ (l ++ r ∷ k) ≡ [] = cc in absurd (cons≢nil f)
-
-one-of-two : (l : List Labelled) (r : Labelled) (k : List Labelled) (c b : Labelled) → l ++ r ∷ k ≡ c ∷ b ∷ []
-    → (r ≡ c) ⊎ (r ≡ b)
-one-of-two [] r k c b e = inl (cc)
-one-of-two (x ∷ l) r k c b e = inr (one-of-one l r k b (cc))
-
--- a write whose event is missing
-pub lost : (early : ℕ → Bool) (values : List ℕ) → Demand3 early tables acts values (clock ∷ []) → ⊥
+-- bit 0 of a vector of two bits is written once: a write whose event is missing
+pub lost : (early : ℕ → Bool) (values : List ℕ)
+    → Demand3 early one (time 0 ∷ write 3 1 0 ∷ stepEnd ∷ []) values (clock ∷ []) → ⊥
+unfolding Elsewhere writesBit
 lost early values d =
-    let (l, r, k, e, f, g) = owner early values (clock ∷ []) d in
-    let z : _≡_ {A = ℕ} 0 1 = ap (λ q. q .label) (sym (one-of-one l r k clock e)) ∙ f in
-    omega arith
+    ⊎-elim (λ c. let z : _≡_ {A = ℕ} 0 1 = c .0 in omega arith) (shown-none 0 0 1 values)
+    (shown-further 0 0 1 values clock [] (is-shown early one (time 0 ∷ []) 3 1 0 0 (stepEnd ∷ []) refl (refl, tt) values
+    (clock ∷ []) d))
 
-event-shows : shows (0 ∷ []) event 0 ≡ 0
+-- .. and an event that shows 0 where 1 was written
+stale-shows : shows (0 ∷ []) (event 1 0) 0 ≡ 0
 unfolding shows bitIn recordAt recordBytes bigBytes big part fieldAt fieldGet valuePlace
-event-shows = refl
+stale-shows = refl
 
--- an event that shows 0 where 1 was written
-pub stale : (early : ℕ → Bool) → Demand3 early tables acts (0 ∷ []) (clock ∷ event ∷ []) → ⊥
+pub stale : (early : ℕ → Bool)
+    → Demand3 early one (time 0 ∷ write 3 1 0 ∷ stepEnd ∷ []) (0 ∷ []) (clock ∷ event 1 0 ∷ []) → ⊥
+unfolding Elsewhere writesBit
 stale early d =
-    let (l, r, k, e, f, g) = owner early (0 ∷ []) (clock ∷ event ∷ []) d in
-    ⊎-elim (λ (c : r ≡ clock). let z : _≡_ {A = ℕ} 0 1 = ap (λ q. q .label) (sym c) ∙ f in omega arith)
-    (λ (c : r ≡ event). let z : _≡_ {A = ℕ} 0 1 = sym event-shows ∙
-    (ap (λ q. shows (0 ∷ []) q 0) (sym c) ∙ g) in omega arith)
-    (one-of-two l r k clock event e)
+    ⊎-elim (λ c. let z : _≡_ {A = ℕ} 0 1 = c .0 in omega arith)
+    (λ o. ⊎-elim (λ c. let z : _≡_ {A = ℕ} 0 1 = sym stale-shows ∙ c .1 in omega arith) (shown-none 0 0 1 (0 ∷ []))
+    (shown-further 0 0 1 (0 ∷ []) (event 1 0) [] o))
+    (shown-further 0 0 1 (0 ∷ []) clock (event 1 0 ∷ [])
+    (is-shown early one (time 0 ∷ []) 3 1 0 0 (stepEnd ∷ []) refl (refl, tt) (0 ∷ []) (clock ∷ event 1 0 ∷ []) d))
+
+-- two vectors of one bit that share a reference, 1 written to the first and 0 to the second: labels the wrong way round
+abbrev two : Tables
+two = record { vector = λ i. i; min = λ v. v + 1; max = λ v. v + 1 }
+
+swapped-shows : shows (1 ∷ 0 ∷ []) (event 1 1) 0 ≡ 0
+unfolding shows bitIn recordAt recordBytes bigBytes big part fieldAt fieldGet valuePlace
+swapped-shows = refl
+
+abbrev mixed : List Labelled
+mixed = clock ∷ event 2 0 ∷ event 1 1 ∷ []
+
+pub swapped : (early : ℕ → Bool)
+    → Demand3 early two (time 0 ∷ write 1 1 0 ∷ write 2 0 1 ∷ stepEnd ∷ []) (1 ∷ 0 ∷ []) mixed → ⊥
+unfolding Elsewhere writesBit
+swapped early d =
+    ⊎-elim (λ c. let z : _≡_ {A = ℕ} 0 1 = c .0 in omega arith)
+    (λ o. ⊎-elim (λ c. let z : _≡_ {A = ℕ} 2 1 = c .0 in omega arith)
+    (λ o. ⊎-elim (λ c. let z : _≡_ {A = ℕ} 0 1 = sym swapped-shows ∙ c .1 in omega arith)
+    (shown-none 0 0 1 (1 ∷ 0 ∷ []))
+    (shown-further 0 0 1 (1 ∷ 0 ∷ []) (event 1 1) [] o))
+    (shown-further 0 0 1 (1 ∷ 0 ∷ []) (event 2 0) (event 1 1 ∷ []) o))
+    (shown-further 0 0 1 (1 ∷ 0 ∷ []) clock (event 2 0 ∷ event 1 1 ∷ [])
+    (is-shown early two (time 0 ∷ []) 1 1 0 0 (write 2 0 1 ∷ stepEnd ∷ []) refl (refl, (refl, tt))
+    (1 ∷ 0 ∷ []) mixed d))

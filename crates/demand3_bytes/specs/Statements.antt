@@ -208,7 +208,7 @@ pub record ByEnd (b : List Moment) : Type 0 where
 -- `early` is rule (c)'s test of the width, `tr` the acts and records in one order
 pub record Sentences (early : ℕ → Bool) (t : Tables) (values : List ℕ) (tr : List Moment) : Type 0 where
   -- "every write of a vector bit belongs to exactly one event: the first event of that vector after the write, ..
-  -- .. by the end of the write's step."
+  -- .. by the end of the write's step"
   pub first-event : (v : ℕ) (a : List Moment) (id x p : ℕ) (b : List Moment)
       → tr ≡ a ++ said (write id x p) ∷ b → t .vector id ≡ suc v
       → (m : List Moment) × (r : Labelled) × (rest : List Moment) × First v b m r rest × Without isStepEnd m

@@ -25,7 +25,8 @@ use Rattle.gather.specs.Run.Rendered.{valuesOf}
 use Rattle.demand3_bytes.specs.Statements.{Labelled, labelOf, stateIn, partOf, Tells}
 use Rattle.demand3_bytes.specs.Own.{own-at, own-single, own-ends, own-of, own-not}
 use Rattle.demand3_bytes.specs.Trace.{labelled, labelledFrom, eventOf, aloneEvent, size, size-nil, size-append}
-use Rattle.demand3_bytes.specs.Trace.Cuts.{Named, alone-label, value-no-time, alone-no-time}
+use Rattle.demand3_bytes.specs.Trace.Named.{Named}
+use Rattle.demand3_bytes.specs.Trace.Cuts.{alone-label, value-no-time, alone-no-time}
 use Rattle.demand3_bytes.specs.Stored.{SmallItems}
 use Rattle.demand3_bytes.specs.Sentences.{happened, named-behind, shows-at}
 

@@ -16,8 +16,10 @@ use Rattle.records.specs.Event as events
 use Rattle.gather.specs.Run.{gathers, alone, ofVector, eventsOf}
 use Rattle.gather.specs.Run.Rendered.{rendered, valuesOf}
 use Rattle.demand3_bytes.specs.Statements.{Labelled, joined, labels, labelOf, labelsOf, stateIn, Moment, said, made, saidIn, madeIn}
+pub mod Named
 pub mod Cuts
 pub mod Stretches
+pub mod Nexts
 
 -- ---- records
 

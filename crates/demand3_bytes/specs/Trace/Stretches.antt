@@ -20,7 +20,8 @@ use Rattle.gather.specs.Run.{gathers}
 use Rattle.demand3_bytes.specs.Statements.{labelOf, isEventOf, isStepEnd, writesBit, Without, Waits}
 use Rattle.demand3_bytes.specs.Own.{own-at, own-single, own-ends, own-of, own-not, isInner, own-place}
 use Rattle.demand3_bytes.specs.Trace.{labelled, itemMoments, moments, size, trace, trace-append}
-use Rattle.demand3_bytes.specs.Trace.Cuts.{Named, named-append, alone-label, at-write}
+use Rattle.demand3_bytes.specs.Trace.Named.{Named, named-append}
+use Rattle.demand3_bytes.specs.Trace.Cuts.{alone-label, at-write}
 
 module _ (t : Lists) (v : ℕ) where
   -- whether or not a happening is of this vector
