@@ -16,6 +16,7 @@ use Rattle.changes.specs.declared.Change.the-variants.{Time, Write, Step
 pub mod Whole
 pub mod Record
 pub mod Found
+pub mod Items
 pub mod Turn
 pub mod Loop
 pub mod Steps
