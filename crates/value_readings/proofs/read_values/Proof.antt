@@ -1,19 +1,20 @@
--- `readings::read_values` meets its contract: each need follows from `values-laws`. Assumes nothing.
+-- `value_readings::read_values` meets its contract: each need follows from `values-laws`. Assumes nothing.
+use Rattle.value_readings.specs.Values.Code.{OnValues, on-more, on-out, on-over, on-still, still-less, values-laws}
 use Rattle.section_heads.specs.Heads.{standing}
 use Rattle.gather.specs.Memory.{memOf}
 use Rattle.item_turns.specs.Lent.{tables}
-use Rattle.readings.specs.Steps.{toGo}
+use Rattle.value_readings.specs.Values.{toValue}
 use borrow.Author.Needs.{needs}
-use Rattle.readings.specs.Steps.Code.{OnValues, on-less, on-out, on-over, values-laws}
-use Rattle.readings.proofs.read_values.Statement.{statement}
-use Rattle.readings.proofs.read_values.Tie as tie
+use Rattle.value_readings.proofs.read_values.Statement.{statement}
+use Rattle.value_readings.proofs.read_values.Tie as tie
 
 abbrev Inv-loop : tie.InvT-loop
 Inv-loop b n s room₀ list₀ events₀ values₀ phase time id₀ at₀ g₀ room list events values id at g =
     OnValues (tables b n) s phase time at₀ (memOf room₀ list₀ events₀ values₀) g₀ (memOf room list events values) g id at
 
 abbrev μ-loop : tie.MeasureT-loop
-μ-loop b n s room₀ list₀ events₀ values₀ phase time id₀ at₀ g₀ room list events values id at g = toGo (tables b n) s room g (standing phase id time) at
+μ-loop b n s room₀ list₀ events₀ values₀ phase time id₀ at₀ g₀ room list events values id at g =
+    toValue (tables b n) s (memOf room list events values) g (standing phase id time) at
 
 begun-requires : tie.Need-begun-requires Inv-loop μ-loop
 begun-requires c κs = search (values-laws, needs)
@@ -31,13 +32,22 @@ enum-told : tie.Need-enum-told Inv-loop μ-loop
 enum-told c = search (values-laws, needs)
 
 loop-less : tie.Need-loop-less Inv-loop μ-loop
-loop-less c = on-less (c .before .before .before .before .before .before .before .before .before .before .before .before .before .before .before .before .before .loop .inv) (c .before .before .before .before .before .before .before .before .before .before .before .before .before .before .before .before .standing .ensures) (c .before .before .before .before .before .before .before .before .before .before .before .one-value .ensures) (search needs)
+loop-less c = search (values-laws, needs)
 
 loop-again : tie.Need-loop-again Inv-loop μ-loop
-loop-again c = search (values-laws, needs)
+loop-again c = on-more (c .before .before .before .before .before .before .before .before .before .before .before .before .before .before .before .before .before .loop .inv) (c .before .before .before .before .before .before .before .before .before .before .before .before .before .before .before .before .standing .ensures) (c .before .before .before .before .before .before .before .before .before .before .before .one-value .ensures) (search needs) (search (values-laws, needs))
 
 enum-told-2 : tie.Need-enum-told-2 Inv-loop μ-loop
 enum-told-2 c = search (values-laws, needs)
+
+loop-less-2 : tie.Need-loop-less-2 Inv-loop μ-loop
+loop-less-2 c = still-less (c .before .before .before .before .before .before .before .before .before .before .before .before .before .before .before .before .before .loop .inv) (c .before .before .before .before .before .before .before .before .before .before .before .before .before .before .before .before .standing .ensures) (c .before .before .before .before .before .before .before .before .before .before .before .one-value .ensures) (search needs)
+
+loop-again-2 : tie.Need-loop-again-2 Inv-loop μ-loop
+loop-again-2 c = on-still (c .before .before .before .before .before .before .before .before .before .before .before .before .before .before .before .before .before .loop .inv) (c .before .before .before .before .before .before .before .before .before .before .before .before .before .before .before .before .standing .ensures) (c .before .before .before .before .before .before .before .before .before .before .before .one-value .ensures) (search needs) (search (values-laws, needs))
+
+enum-told-3 : tie.Need-enum-told-3 Inv-loop μ-loop
+enum-told-3 c = search (values-laws, needs)
 
 next-step-requires : tie.Need-next-step-requires Inv-loop μ-loop
 next-step-requires c κs = search (values-laws, needs)
@@ -57,8 +67,8 @@ same-length-4 c = search (values-laws, needs)
 returns : tie.Need-returns Inv-loop μ-loop
 returns c = on-over (c .before .before .before .before .before .before .before .before .before .before .before .before .before .before .before .before .before .before .before .before .before .before .before .before .before .pre) (c .before .before .before .before .before .before .before .before .before .before .before .before .before .before .before .before .before .before .begun .ensures) (c .before .before .before .before .before .before .before .before .before .before .before .before .before .before .before .before .before .loop .inv) (c .before .before .before .before .before .before .before .before .before .before .before .before .before .before .before .before .standing .ensures) (c .before .before .before .before .before .before .before .before .before .before .before .one-value .ensures) (search needs) (c .next-step .ensures)
 
-enum-told-3 : tie.Need-enum-told-3 Inv-loop μ-loop
-enum-told-3 c = search (values-laws, needs)
+enum-told-4 : tie.Need-enum-told-4 Inv-loop μ-loop
+enum-told-4 c = search (values-laws, needs)
 
 same-length-5 : tie.Need-same-length-5 Inv-loop μ-loop
 same-length-5 c = search (values-laws, needs)
@@ -89,13 +99,16 @@ read-values-spec =
     loop-less
     loop-again
     enum-told-2
+    loop-less-2
+    loop-again-2
+    enum-told-3
     next-step-requires
     same-length
     same-length-2
     same-length-3
     same-length-4
     returns
-    enum-told-3
+    enum-told-4
     same-length-5
     same-length-6
     same-length-7
