@@ -1,5 +1,6 @@
 #!/bin/sh
-# Builds target/compare/compare. With an archive named by PORT (target/staticlib/libdoorquill.a) the port is linked in, and where libbench.a lies beside it the drop-in too;
+# Builds target/compare/compare. With an archive named by PORT (target/staticlib/libdoorquill.a) the port is linked in, with libdoorquill_changes.a and
+# libdoorquill_back.a beside it, and where libbench.a lies there the drop-in too;
 # with PORT=fake the plain reading stands behind the same C functions; without it the port is left out.
 # RUSTC names the compiler; TARGET_FLAGS are the flags for the program (none where it is native).
 set -eu
@@ -54,7 +55,7 @@ under=$(on calls leb128 smallvec num_enum thiserror)
         rlib fake src/fake.rs $(on calls)
         link="--cfg port --cfg fake $(on fake)" ;;
     *)
-        link="--cfg port -L native=$(dirname "$PORT") -l static=$(basename "$PORT" .a | sed 's/^lib//')"
+        link="--cfg port -L native=$(dirname "$PORT") -l static=$(basename "$PORT" .a | sed 's/^lib//') -l static=doorquill_changes -l static=doorquill_back"
         # The drop-in stands on the safe crate, which calls the bench too.
         if [ -f "$(dirname "$PORT")/libbench.a" ]; then
             rlib doorquill ../rust/doorquill/src/lib.rs -L "native=$(dirname "$PORT")" -l static=bench

@@ -1,5 +1,5 @@
-/* The proved reader of GHW signal sections, for C and C++ on x86-64 Linux: libdoorquill.a, and libbench.a for doorquill_bench (a release has both in
- * one libdoorquill.a).
+/* The proved reader of GHW signal sections, for C and C++ on x86-64 Linux: libdoorquill.a, libdoorquill_changes.a for doorquill_read_changes,
+ * libdoorquill_back.a for doorquill_read_back and libbench.a for doorquill_bench (a release has all in one libdoorquill.a).
  *
  * No call allocates, keeps state, blocks or fails to end; each reads and writes inside the memory that it is lent and nowhere else, whatever that
  * holds. Calls may run side by side on memory of their own. The archives need memcpy and memset and nothing else.

@@ -31,7 +31,7 @@ cp "$(built release)/doorquill" "$made/bin/"
 # All calls in one archive.
 {
     echo "create $made/lib/libdoorquill.a"
-    for archive in doorquill bench; do echo "addlib $DOORQUILL_LIB/lib$archive.a"; done
+    for archive in $proved; do echo "addlib $DOORQUILL_LIB/lib$archive.a"; done
     echo save
     echo end
 } | "${prefix}ar" -M

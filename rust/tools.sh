@@ -6,10 +6,12 @@
 #   static_flags sets what links programs without a library of the system
 #   prefix       what stands before the names of the tools for x86-64
 #   across       what makes cargo run documentation tests under an emulator, where there is one
-#   archives     makes the proved archives where `rt` is at hand, and sets DOORQUILL_LIB to their folder
+#   proved       the names of the proved archives
+#   archives     makes them where `rt` is at hand, and sets DOORQUILL_LIB to their folder
 #   left_out ..  ends the script with a message and status 0
 #   offered ..   installs packages that are of use and not needed, where they can be had
 log=$out/install.log
+proved='doorquill doorquill_changes doorquill_back bench'
 
 left_out() {
     echo "host: not run: $*"
@@ -95,7 +97,7 @@ archives() {
     DOORQUILL_LIB=$root/target/staticlib
     export DOORQUILL_LIB
     command -v rt > /dev/null || return 0
-    (cd "$root" && rt staticlib doorquill && rt staticlib bench) > "$out/staticlib.log" 2>&1 && return 0
+    (cd "$root" && for name in $proved; do rt staticlib "$name" || exit 1; done) > "$out/staticlib.log" 2>&1 && return 0
     echo "host: the archives were not made:"
     tail -n 20 "$out/staticlib.log"
     return 1

@@ -9,10 +9,10 @@ use std::process::exit;
 const CALLS: [(&str, &str); 7] = [
     ("doorquill_read_sections", "doorquill"),
     ("doorquill_read_sections_lent", "doorquill"),
-    ("doorquill_read_changes", "doorquill"),
+    ("doorquill_read_changes", "doorquill_changes"),
     ("doorquill_time_rule", "doorquill"),
     ("doorquill_write_sections", "doorquill"),
-    ("doorquill_read_back", "doorquill"),
+    ("doorquill_read_back", "doorquill_back"),
     ("doorquill_bench", "bench"),
 ];
 

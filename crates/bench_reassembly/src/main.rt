@@ -45,14 +45,14 @@ fn ruled(events: &[u8], values: &[u8]) {
 }
 
 // Section reading, over the rooms that the listing lends.
-fn read(
-    kinds: &[u8],
-    refs: &[u32],
-    vecs: &[u32],
-    mins: &[u32],
-    maxs: &[u32],
-    states: &[u8],
-    vec_refs: &[u32],
+fn read<'a>(
+    kinds: &'a [u8],
+    refs: &'a [u32],
+    vecs: &'a [u32],
+    mins: &'a [u32],
+    maxs: &'a [u32],
+    states: &'a [u8],
+    vec_refs: &'a [u32],
     big_endian: bool,
     s: &[u8],
 ) {

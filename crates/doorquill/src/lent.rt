@@ -17,8 +17,8 @@ ghost use lib.ListN.{length, replicate};
 ghost use Rattle.slices.specs.Splice.{splice, part};
 ghost use Rattle.tables.specs.Lists.{lists};
 ghost use Rattle.entries.specs.Entries.{readSections};
-ghost use Rattle.reading_ends.specs.Reading.{leftOf, lentOf};
-ghost use Rattle.doorquill.specs.Lent.Flat.{roomFor, Unpacked, lows, flatTable, checkFlat, checksFlat, readPassed, refusedLent, readFlat, leftLent};
+ghost use Rattle.entries.specs.Faces.{lent, left};
+ghost use Rattle.doorquill.specs.Lent.Flat.{roomFor, Unpacked, lows, flatTable, checkFlat, checksFlat, readPassed, refusedLent, readFlat, leftWith};
 
 // How many of `v` records are made flat: none where there are too many, or where `flat` has no room for them.
 pub(crate) fn room_for(v: usize, flat: usize) -> usize
@@ -113,15 +113,15 @@ fn first_of(states: &[u8], n: usize) -> &[u8]
 }
 
 // The references and the states are found, and the core reads.
-fn read_rest(
-    kinds: &[u8],
-    refs: &[u32],
-    vecs: &[u32],
-    mins: &[u32],
-    maxs: &[u32],
+fn read_rest<'a>(
+    kinds: &'a [u8],
+    refs: &'a [u32],
+    vecs: &'a [u32],
+    mins: &'a [u32],
+    maxs: &'a [u32],
     v: usize,
-    flat: &[u32],
-    states: &[u8],
+    flat: &'a [u32],
+    states: &'a [u8],
     big_endian: bool,
     input: &[u8],
     events: &mut [u8],
@@ -130,7 +130,10 @@ fn read_rest(
     list: &mut [u32],
 ) -> Answer
     requires { ⌜ (2 * v + v ≤ length (now flat)) × (v ≤ length (now states)) ⌝ }
-    ensures { λ r. ⌜ leftOf r (now (events .exit)) (now (values .exit)) (now (room .exit)) (now (list .exit)) ≡ readSections (lists (now (kinds .entry)) (now (refs .entry)) (now (vecs .entry)) (now (mins .entry)) (now (maxs .entry)) (part (now (states .entry)) 0 v) (part (now (flat .entry)) (2 * v) v)) «big_endian» (now (input .entry)) (lentOf (now (events .entry)) (now (values .entry)) (now (room .entry)) (now (list .entry))) ⌝ }
+    ensures { λ r.
+        let t = lists (now (kinds .entry)) (now (refs .entry)) (now (vecs .entry)) (now (mins .entry)) (now (maxs .entry))
+        (part (now (states .entry)) 0 v) (part (now (flat .entry)) (2 * v) v) in
+        ⌜ left r events values room list ≡ readSections t «big_endian» (now (input .entry)) (lent events values room list) ⌝ }
 {
     let vec_refs = references(flat, v);
     let bytes = first_of(states, v);
@@ -152,13 +155,13 @@ fn read_rest(
 }
 
 // So are the ranges.
-fn read_runs(
-    kinds: &[u8],
-    refs: &[u32],
-    vecs: &[u32],
+fn read_runs<'a>(
+    kinds: &'a [u8],
+    refs: &'a [u32],
+    vecs: &'a [u32],
     v: usize,
-    flat: &[u32],
-    states: &[u8],
+    flat: &'a [u32],
+    states: &'a [u8],
     big_endian: bool,
     input: &[u8],
     events: &mut [u8],
@@ -167,7 +170,10 @@ fn read_runs(
     list: &mut [u32],
 ) -> Answer
     requires { ⌜ (2 * v + v ≤ length (now flat)) × (v ≤ length (now states)) ⌝ }
-    ensures { λ r. ⌜ leftOf r (now (events .exit)) (now (values .exit)) (now (room .exit)) (now (list .exit)) ≡ readSections (lists (now (kinds .entry)) (now (refs .entry)) (now (vecs .entry)) (part (now (flat .entry)) 0 v) (part (now (flat .entry)) v v) (part (now (states .entry)) 0 v) (part (now (flat .entry)) (2 * v) v)) «big_endian» (now (input .entry)) (lentOf (now (events .entry)) (now (values .entry)) (now (room .entry)) (now (list .entry))) ⌝ }
+    ensures { λ r.
+        let t = lists (now (kinds .entry)) (now (refs .entry)) (now (vecs .entry)) (part (now (flat .entry)) 0 v)
+        (part (now (flat .entry)) v v) (part (now (states .entry)) 0 v) (part (now (flat .entry)) (2 * v) v) in
+        ⌜ left r events values room list ≡ readSections t «big_endian» (now (input .entry)) (lent events values room list) ⌝ }
 {
     let mins = least_ids(flat, v);
     let maxs = greatest_ids(flat, v);
@@ -190,12 +196,12 @@ fn read_runs(
 }
 
 // The flat table goes to the core. Its states stand in an array beside `flat`, since the core takes them as bytes.
-fn read_table(
-    kinds: &[u8],
-    refs: &[u32],
-    vecs: &[u32],
+fn read_table<'a>(
+    kinds: &'a [u8],
+    refs: &'a [u32],
+    vecs: &'a [u32],
     v: usize,
-    flat: &[u32],
+    flat: &'a [u32],
     big_endian: bool,
     input: &[u8],
     events: &mut [u8],
@@ -204,7 +210,9 @@ fn read_table(
     list: &mut [u32],
 ) -> Answer
     requires { ⌜ (v ≤ 16383) × (4 * v ≤ length (now flat)) ⌝ }
-    ensures { λ r. ⌜ leftOf r (now (events .exit)) (now (values .exit)) (now (room .exit)) (now (list .exit)) ≡ readSections (flatTable (now (kinds .entry)) (now (refs .entry)) (now (vecs .entry)) v (now (flat .entry))) «big_endian» (now (input .entry)) (lentOf (now (events .entry)) (now (values .entry)) (now (room .entry)) (now (list .entry))) ⌝ }
+    ensures { λ r.
+        let t = flatTable (now (kinds .entry)) (now (refs .entry)) (now (vecs .entry)) v (now (flat .entry)) in
+        ⌜ left r events values room list ≡ readSections t «big_endian» (now (input .entry)) (lent events values room list) ⌝ }
 {
     let mut states = [0u8; 16383];
     lower_states(flat, 3 * v, v, &mut states);
@@ -225,10 +233,10 @@ fn read_table(
 }
 
 // A reading that passed the checks: `flat` becomes zero after it.
-fn read_passed(
-    kinds: &[u8],
-    refs: &[u32],
-    vecs: &[u32],
+fn read_passed<'a>(
+    kinds: &'a [u8],
+    refs: &'a [u32],
+    vecs: &'a [u32],
     v: usize,
     flat: &mut [u32],
     big_endian: bool,
@@ -239,7 +247,10 @@ fn read_passed(
     list: &mut [u32],
 ) -> Answer
     requires { ⌜ (v ≤ 16383) × (4 * v ≤ length (now flat)) ⌝ }
-    ensures { λ r. ⌜ leftLent r (now (flat .exit)) (now (events .exit)) (now (values .exit)) (now (room .exit)) (now (list .exit)) ≡ readPassed (now (kinds .entry)) (now (refs .entry)) (now (vecs .entry)) v (now (flat .entry)) «big_endian» (now (input .entry)) (lentOf (now (events .entry)) (now (values .entry)) (now (room .entry)) (now (list .entry))) ⌝ }
+    ensures { λ r.
+        ⌜ leftWith r flat events values room list
+        ≡ readPassed (now (kinds .entry)) (now (refs .entry)) (now (vecs .entry)) v (now (flat .entry))
+        «big_endian» (now (input .entry)) (lent events values room list) ⌝ }
 {
     let w = &flat[..];
     let a = read_table(
@@ -269,17 +280,19 @@ fn refuse_lent(
     number: u64,
     place: u64,
 ) -> Answer
-    ensures { λ r. ⌜ leftLent r (now (flat .exit)) (now (events .exit)) (now (values .exit)) (now (room .exit)) (now (list .exit)) ≡ refusedLent (length (now (flat .entry))) (lentOf (now (events .entry)) (now (values .entry)) (now (room .entry)) (now (list .entry))) number place ⌝ }
+    ensures { λ r.
+        ⌜ leftWith r flat events values room list
+        ≡ refusedLent (length (now (flat .entry))) (lent events values room list) number place ⌝ }
 {
     clear_all(flat);
     refuse(events, values, room, list, number, place)
 }
 
 // Section reading from the flat table of `v` vectors.
-pub(crate) fn read_flat(
-    kinds: &[u8],
-    refs: &[u32],
-    vecs: &[u32],
+pub(crate) fn read_flat<'a>(
+    kinds: &'a [u8],
+    refs: &'a [u32],
+    vecs: &'a [u32],
     v: usize,
     flat: &mut [u32],
     big_endian: bool,
@@ -289,7 +302,10 @@ pub(crate) fn read_flat(
     room: &mut [u8],
     list: &mut [u32],
 ) -> Answer
-    ensures { λ r. ⌜ leftLent r (now (flat .exit)) (now (events .exit)) (now (values .exit)) (now (room .exit)) (now (list .exit)) ≡ readFlat (now (kinds .entry)) (now (refs .entry)) (now (vecs .entry)) v (now (flat .entry)) «big_endian» (now (input .entry)) (lentOf (now (events .entry)) (now (values .entry)) (now (room .entry)) (now (list .entry))) ⌝ }
+    ensures { λ r.
+        ⌜ leftWith r flat events values room list
+        ≡ readFlat (now (kinds .entry)) (now (refs .entry)) (now (vecs .entry)) v (now (flat .entry))
+        «big_endian» (now (input .entry)) (lent events values room list) ⌝ }
 {
     match check_lent(
         kinds.len(),

@@ -1,4 +1,4 @@
-// The public entries.
+// Section reading, over flat lists and over vector records, the time rule, and sections written: their faces.
 mod lent;
 mod passed;
 
@@ -12,21 +12,18 @@ use encoder::apply;
 use lent::read_flat;
 use lent::room_for;
 use lent::unpack;
-use passed::changes_passed;
 use passed::sections_passed;
-use read_back::read_back;
 use reading_ends::refuse;
+use section_heads::How;
 use section_writing::write_sections;
 use tables::Check;
 ghost use mathlib.Core.Path.{_≡_};
 ghost use lib.ListN.{length};
-ghost use Rattle.tables.specs.Lists.{lists};
-ghost use Rattle.answers.specs.Outcome.{LeftKept};
-ghost use Rattle.entries.specs.Entries.{readSections, readChanges, applyTimeRule};
-ghost use Rattle.reading_ends.specs.Reading.{leftOf, lentOf};
-ghost use Rattle.doorquill.specs.Lent.Flat.{leftLent};
+ghost use Rattle.entries.specs.Entries.{readSections, applyTimeRule};
+ghost use Rattle.entries.specs.Faces.{tables, lent, left, leftIn};
+ghost use Rattle.doorquill.specs.Lent.Flat.{leftWith};
 ghost use Rattle.doorquill.specs.Lent.{readSectionsLent};
-ghost use Rattle.entries.specs.Written.{writeSections, readBack};
+ghost use Rattle.entries.specs.Written.{writeSections};
 
 // A vector's record, as a host lends it.
 #[repr(C)]
@@ -39,14 +36,14 @@ pub struct Vector {
 
 // Section reading.
 #[no_mangle]
-pub extern "C" fn doorquill_read_sections(
-    kinds: &[u8],
-    refs: &[u32],
-    vecs: &[u32],
-    mins: &[u32],
-    maxs: &[u32],
-    states: &[u8],
-    vec_refs: &[u32],
+pub extern "C" fn doorquill_read_sections<'a>(
+    kinds: &'a [u8],
+    refs: &'a [u32],
+    vecs: &'a [u32],
+    mins: &'a [u32],
+    maxs: &'a [u32],
+    states: &'a [u8],
+    vec_refs: &'a [u32],
     big_endian: bool,
     input: &[u8],
     events: &mut [u8],
@@ -54,7 +51,10 @@ pub extern "C" fn doorquill_read_sections(
     room: &mut [u8],
     list: &mut [u32],
 ) -> Answer
-    ensures { λ r. ⌜ leftOf r (now (events .exit)) (now (values .exit)) (now (room .exit)) (now (list .exit)) ≡ readSections (lists (now (kinds .entry)) (now (refs .entry)) (now (vecs .entry)) (now (mins .entry)) (now (maxs .entry)) (now (states .entry)) (now («vec_refs» .entry))) «big_endian» (now (input .entry)) (lentOf (now (events .entry)) (now (values .entry)) (now (room .entry)) (now (list .entry))) ⌝ }
+    ensures { λ r.
+        let t = tables kinds refs vecs mins maxs states «vec_refs» in
+        ⌜ left r events values room list
+        ≡ readSections t «big_endian» (now (input .entry)) (lent events values room list) ⌝ }
 {
     match checks(
         kinds,
@@ -71,14 +71,9 @@ pub extern "C" fn doorquill_read_sections(
         list.len(),
     ) {
         Check::Passed => sections_passed(
-            kinds,
-            refs,
-            vecs,
-            mins,
-            maxs,
-            states,
-            vec_refs,
-            big_endian,
+            [kinds, states],
+            [refs, vecs, mins, maxs, vec_refs],
+            How { big_endian },
             input,
             events,
             values,
@@ -91,10 +86,10 @@ pub extern "C" fn doorquill_read_sections(
 
 // Section reading over vector records: a thin entry over the same core. `flat` lends 4 numbers for each record; it is a working buffer.
 #[no_mangle]
-pub extern "C" fn doorquill_read_sections_lent(
-    kinds: &[u8],
-    refs: &[u32],
-    vecs: &[u32],
+pub extern "C" fn doorquill_read_sections_lent<'a>(
+    kinds: &'a [u8],
+    refs: &'a [u32],
+    vecs: &'a [u32],
     vectors: &[Vector],
     flat: &mut [u32],
     big_endian: bool,
@@ -104,7 +99,10 @@ pub extern "C" fn doorquill_read_sections_lent(
     room: &mut [u8],
     list: &mut [u32],
 ) -> Answer
-    ensures { λ r. ⌜ leftLent r (now (flat .exit)) (now (events .exit)) (now (values .exit)) (now (room .exit)) (now (list .exit)) ≡ readSectionsLent (now (vectors .entry)) (now (kinds .entry)) (now (refs .entry)) (now (vecs .entry)) «big_endian» (now (input .entry)) (lentOf (now (events .entry)) (now (values .entry)) (now (room .entry)) (now (list .entry))) (length (now (flat .entry))) ⌝ }
+    ensures { λ r.
+        ⌜ leftWith r flat events values room list
+        ≡ readSectionsLent (now (vectors .entry)) (now (kinds .entry)) (now (refs .entry)) (now (vecs .entry))
+        «big_endian» (now (input .entry)) (lent events values room list) (length (now (flat .entry))) ⌝ }
 {
     let n = room_for(vectors.len(), flat.len());
     unpack(vectors, flat, n);
@@ -123,60 +121,12 @@ pub extern "C" fn doorquill_read_sections_lent(
     )
 }
 
-// Change reading.
-#[no_mangle]
-pub extern "C" fn doorquill_read_changes(
-    kinds: &[u8],
-    refs: &[u32],
-    vecs: &[u32],
-    mins: &[u32],
-    maxs: &[u32],
-    states: &[u8],
-    vec_refs: &[u32],
-    input: &[u8],
-    events: &mut [u8],
-    values: &mut [u8],
-    room: &mut [u8],
-    list: &mut [u32],
-) -> Answer
-    ensures { λ r. ⌜ leftOf r (now (events .exit)) (now (values .exit)) (now (room .exit)) (now (list .exit)) ≡ readChanges (lists (now (kinds .entry)) (now (refs .entry)) (now (vecs .entry)) (now (mins .entry)) (now (maxs .entry)) (now (states .entry)) (now («vec_refs» .entry))) (now (input .entry)) (lentOf (now (events .entry)) (now (values .entry)) (now (room .entry)) (now (list .entry))) ⌝ }
-{
-    match checks(
-        kinds,
-        refs,
-        vecs,
-        mins,
-        maxs,
-        states,
-        vec_refs,
-        input.len(),
-        events.len(),
-        values.len(),
-        room.len(),
-        list.len(),
-    ) {
-        Check::Passed => changes_passed(
-            kinds,
-            refs,
-            vecs,
-            mins,
-            maxs,
-            states,
-            vec_refs,
-            input,
-            events,
-            values,
-            room,
-            list,
-        ),
-        Check::Refused(number, place) => refuse(events, values, room, list, number, place),
-    }
-}
-
 // The time rule over an event stream and its value bytes: what is kept of it.
 #[no_mangle]
 pub extern "C" fn doorquill_time_rule(events: &[u8], values: &[u8], kept: &mut [u8]) -> Answer
-    ensures { λ r. ⌜ _≡_ {A = LeftKept} (record { answer = r; kept = now (kept .exit) }) (applyTimeRule (now (events .entry)) (length (now (values .entry))) (length (now (kept .entry)))) ⌝ }
+    ensures { λ r.
+        ⌜ leftIn r kept
+        ≡ applyTimeRule (now (events .entry)) (length (now (values .entry))) (length (now (kept .entry))) ⌝ }
 {
     if within_limits(events.len(), values.len(), kept.len()) {
         let w = apply(events, values.len(), kept);
@@ -199,7 +149,9 @@ pub extern "C" fn doorquill_write_sections(
     changes: &[u8],
     out: &mut [u8],
 ) -> Answer
-    ensures { λ r. ⌜ _≡_ {A = LeftKept} (record { answer = r; kept = now (out .exit) }) (writeSections (lists (now (kinds .entry)) (now (refs .entry)) (now (vecs .entry)) (now (mins .entry)) (now (maxs .entry)) (now (states .entry)) (now («vec_refs» .entry))) «big_endian» (now (changes .entry)) (length (now (out .entry)))) ⌝ }
+    ensures { λ r.
+        let t = tables kinds refs vecs mins maxs states «vec_refs» in
+        ⌜ leftIn r out ≡ writeSections t «big_endian» (now (changes .entry)) (length (now (out .entry))) ⌝ }
 {
     match checks_without_room(
         kinds,
@@ -215,41 +167,6 @@ pub extern "C" fn doorquill_write_sections(
         // Of the tables the kinds alone are asked.
         Check::Passed => {
             let w = write_sections(kinds, big_endian, changes, out);
-            end_filled(out, w)
-        }
-        Check::Refused(number, place) => refuse_kept(out, number, place),
-    }
-}
-
-// Section bytes read back into change records.
-#[no_mangle]
-pub extern "C" fn doorquill_read_back(
-    kinds: &[u8],
-    refs: &[u32],
-    vecs: &[u32],
-    mins: &[u32],
-    maxs: &[u32],
-    states: &[u8],
-    vec_refs: &[u32],
-    big_endian: bool,
-    input: &[u8],
-    out: &mut [u8],
-) -> Answer
-    ensures { λ r. ⌜ _≡_ {A = LeftKept} (record { answer = r; kept = now (out .exit) }) (readBack (lists (now (kinds .entry)) (now (refs .entry)) (now (vecs .entry)) (now (mins .entry)) (now (maxs .entry)) (now (states .entry)) (now («vec_refs» .entry))) «big_endian» (now (input .entry)) (length (now (out .entry)))) ⌝ }
-{
-    match checks_without_room(
-        kinds,
-        refs,
-        vecs,
-        mins,
-        maxs,
-        states,
-        vec_refs,
-        input.len(),
-        out.len(),
-    ) {
-        Check::Passed => {
-            let w = read_back(kinds, big_endian, input, out);
             end_filled(out, w)
         }
         Check::Refused(number, place) => refuse_kept(out, number, place),

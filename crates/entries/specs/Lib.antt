@@ -1,5 +1,6 @@
 pub mod Entries
 pub mod Opened
+pub mod Faces
 pub mod Kept
 pub mod Unique
 pub mod Demands

@@ -52,14 +52,14 @@ fn tell(a: Answer, events: &[u8], values: &[u8], text: &mut [u8]) -> usize
 }
 
 // Section reading, over the rooms that the listing lends.
-fn list_sections(
-    kinds: &[u8],
-    refs: &[u32],
-    vecs: &[u32],
-    mins: &[u32],
-    maxs: &[u32],
-    states: &[u8],
-    vec_refs: &[u32],
+fn list_sections<'a>(
+    kinds: &'a [u8],
+    refs: &'a [u32],
+    vecs: &'a [u32],
+    mins: &'a [u32],
+    maxs: &'a [u32],
+    states: &'a [u8],
+    vec_refs: &'a [u32],
     big_endian: bool,
     s: &[u8],
     text: &mut [u8],
@@ -89,14 +89,14 @@ fn list_sections(
 }
 
 // The same, over the first entries of each table and the bytes from `at` on.
-fn list_tables(
-    kinds: &[u8],
-    refs: &[u32],
-    vecs: &[u32],
-    mins: &[u32],
-    maxs: &[u32],
-    states: &[u8],
-    vec_refs: &[u32],
+fn list_tables<'a>(
+    kinds: &'a [u8],
+    refs: &'a [u32],
+    vecs: &'a [u32],
+    mins: &'a [u32],
+    maxs: &'a [u32],
+    states: &'a [u8],
+    vec_refs: &'a [u32],
     signals: usize,
     vectors: usize,
     big_endian: bool,

@@ -55,11 +55,11 @@ fn is_left(
 }
 
 // One input over signals alone, and the event and value bytes that must come of it. Every lent buffer is full of garbage.
-fn run(
+fn run<'a>(
     label: &[u8],
-    kinds: &[u8],
-    refs: &[u32],
-    vecs: &[u32],
+    kinds: &'a [u8],
+    refs: &'a [u32],
+    vecs: &'a [u32],
     input: &[u8],
     made: &[u8],
     shown: &[u8],

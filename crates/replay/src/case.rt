@@ -37,9 +37,9 @@ pub(crate) enum Found {
     Large,
 }
 
-fn sections(
-    frame: &[u8],
-    words: &[u32],
+fn sections<'a>(
+    frame: &'a [u8],
+    words: &'a [u32],
     events: &mut [u8],
     values: &mut [u8],
     room: &mut [u8],
@@ -62,15 +62,15 @@ fn sections(
     )
 }
 
-fn changes(
-    frame: &[u8],
-    words: &[u32],
+fn changes<'a>(
+    frame: &'a [u8],
+    words: &'a [u32],
     events: &mut [u8],
     values: &mut [u8],
     room: &mut [u8],
     list: &mut [u32],
 ) -> Answer {
-    doorquill::doorquill_read_changes(
+    doorquill_changes::doorquill_read_changes(
         bytes_of(frame, KINDS),
         words_of(frame, words, REFS),
         words_of(frame, words, VECS),
@@ -91,9 +91,9 @@ fn time_rule(frame: &[u8], events: &mut [u8]) -> Answer {
     doorquill::doorquill_time_rule(bytes_of(frame, INPUT), bytes_of(frame, VALUE_INPUT), events)
 }
 
-fn call(
-    frame: &[u8],
-    words: &[u32],
+fn call<'a>(
+    frame: &'a [u8],
+    words: &'a [u32],
     events: &mut [u8],
     values: &mut [u8],
     room: &mut [u8],
@@ -154,10 +154,10 @@ fn judged(at: u64, a: Answer, same: bool) -> Found {
 }
 
 // The call, with rooms of just the lengths that the case states.
-fn held(
-    frame: &[u8],
+fn held<'a>(
+    frame: &'a [u8],
     at: u64,
-    words: &[u32],
+    words: &'a [u32],
     events: &mut [u8],
     values: &mut [u8],
     room: &mut [u8],
@@ -172,10 +172,10 @@ fn held(
 }
 
 // The same over larger rooms.
-fn with_rooms(
-    frame: &[u8],
+fn with_rooms<'a>(
+    frame: &'a [u8],
     at: u64,
-    words: &[u32],
+    words: &'a [u32],
     events: &mut [u8],
     values: &mut [u8],
     room: &mut [u8],
@@ -197,7 +197,7 @@ fn with_rooms(
 }
 
 // Every lent buffer is full of garbage.
-fn loaded(frame: &[u8], at: u64, words: &[u32]) -> Found {
+fn loaded<'a>(frame: &'a [u8], at: u64, words: &'a [u32]) -> Found {
     let mut events = [0xa5u8; 2048];
     let mut values = [0x5au8; 4096];
     let mut room = [0xc3u8; 128];

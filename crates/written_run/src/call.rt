@@ -16,7 +16,7 @@ pub(crate) fn call(
     out: &mut [u8],
 ) -> Answer {
     if back {
-        return doorquill::doorquill_read_back(
+        return doorquill_back::doorquill_read_back(
             kinds,
             refs,
             vecs,

@@ -18,15 +18,15 @@ use held::parts::rest;
 use libc::STDIN_FILENO;
 
 // `write` and `back` are one call, `round` is both under either flag and what comes of them.
-fn run(
+fn run<'a>(
     line: &[u8],
-    kinds: &[u8],
-    refs: &[u32],
-    vecs: &[u32],
-    mins: &[u32],
-    maxs: &[u32],
-    states: &[u8],
-    vec_refs: &[u32],
+    kinds: &'a [u8],
+    refs: &'a [u32],
+    vecs: &'a [u32],
+    mins: &'a [u32],
+    maxs: &'a [u32],
+    states: &'a [u8],
+    vec_refs: &'a [u32],
     input: &[u8],
 ) {
     if byte_or_zero(line, 0) == b'r' {
@@ -49,15 +49,15 @@ fn run(
     );
 }
 
-fn with_input(
+fn with_input<'a>(
     line: &[u8],
-    kinds: &[u8],
-    refs: &[u32],
-    vecs: &[u32],
-    mins: &[u32],
-    maxs: &[u32],
-    states: &[u8],
-    vec_refs: &[u32],
+    kinds: &'a [u8],
+    refs: &'a [u32],
+    vecs: &'a [u32],
+    mins: &'a [u32],
+    maxs: &'a [u32],
+    states: &'a [u8],
+    vec_refs: &'a [u32],
 ) {
     let mut input = [0u8; 2048];
     let n = unhex(part(line, b'|', 11), &mut input);
@@ -74,7 +74,7 @@ fn with_input(
     );
 }
 
-fn with_vectors(line: &[u8], kinds: &[u8], refs: &[u32], vecs: &[u32]) {
+fn with_vectors<'a>(line: &[u8], kinds: &'a [u8], refs: &'a [u32], vecs: &'a [u32]) {
     let mut mins = [0u32; 4];
     let mut maxs = [0u32; 4];
     let mut states = [0u8; 4];

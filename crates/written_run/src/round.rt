@@ -6,14 +6,14 @@ use answers::Answer;
 use held::holds;
 use held::parts::first_bytes;
 
-fn sections(
-    kinds: &[u8],
-    refs: &[u32],
-    vecs: &[u32],
-    mins: &[u32],
-    maxs: &[u32],
-    states: &[u8],
-    vec_refs: &[u32],
+fn sections<'a>(
+    kinds: &'a [u8],
+    refs: &'a [u32],
+    vecs: &'a [u32],
+    mins: &'a [u32],
+    maxs: &'a [u32],
+    states: &'a [u8],
+    vec_refs: &'a [u32],
     big_endian: bool,
     s: &[u8],
     events: &mut [u8],
@@ -38,21 +38,21 @@ fn sections(
     )
 }
 
-fn changes(
-    kinds: &[u8],
-    refs: &[u32],
-    vecs: &[u32],
-    mins: &[u32],
-    maxs: &[u32],
-    states: &[u8],
-    vec_refs: &[u32],
+fn changes<'a>(
+    kinds: &'a [u8],
+    refs: &'a [u32],
+    vecs: &'a [u32],
+    mins: &'a [u32],
+    maxs: &'a [u32],
+    states: &'a [u8],
+    vec_refs: &'a [u32],
     s: &[u8],
     events: &mut [u8],
     values: &mut [u8],
 ) -> Answer {
     let mut room = [0xc3u8; 16];
     let mut list = [0x9669_a55au32; 2];
-    doorquill::doorquill_read_changes(
+    doorquill_changes::doorquill_read_changes(
         kinds,
         refs,
         vecs,
@@ -150,14 +150,14 @@ fn same_answer(a: Answer, b: Answer) -> bool {
 }
 
 // Whether the events of `w`, read as sections, are those of `s`, read as change records.
-fn same_events(
-    kinds: &[u8],
-    refs: &[u32],
-    vecs: &[u32],
-    mins: &[u32],
-    maxs: &[u32],
-    states: &[u8],
-    vec_refs: &[u32],
+fn same_events<'a>(
+    kinds: &'a [u8],
+    refs: &'a [u32],
+    vecs: &'a [u32],
+    mins: &'a [u32],
+    maxs: &'a [u32],
+    states: &'a [u8],
+    vec_refs: &'a [u32],
     big_endian: bool,
     s: &[u8],
     w: &[u8],
@@ -209,15 +209,15 @@ fn length_of(a: Answer) -> usize {
     (a.events % 65536) as usize
 }
 
-fn written(
+fn written<'a>(
     label: &[u8],
-    kinds: &[u8],
-    refs: &[u32],
-    vecs: &[u32],
-    mins: &[u32],
-    maxs: &[u32],
-    states: &[u8],
-    vec_refs: &[u32],
+    kinds: &'a [u8],
+    refs: &'a [u32],
+    vecs: &'a [u32],
+    mins: &'a [u32],
+    maxs: &'a [u32],
+    states: &'a [u8],
+    vec_refs: &'a [u32],
     big_endian: bool,
     s: &[u8],
 ) {
@@ -266,14 +266,14 @@ fn written(
     );
 }
 
-pub(crate) fn both(
-    kinds: &[u8],
-    refs: &[u32],
-    vecs: &[u32],
-    mins: &[u32],
-    maxs: &[u32],
-    states: &[u8],
-    vec_refs: &[u32],
+pub(crate) fn both<'a>(
+    kinds: &'a [u8],
+    refs: &'a [u32],
+    vecs: &'a [u32],
+    mins: &'a [u32],
+    maxs: &'a [u32],
+    states: &'a [u8],
+    vec_refs: &'a [u32],
     s: &[u8],
 ) {
     written(

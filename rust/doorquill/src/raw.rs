@@ -1,5 +1,6 @@
-//! The proved calls as the archives have them: `libdoorquill.a` and, for [`doorquill_bench`], `libbench.a`; in a
-//! release all in one.
+//! The proved calls as the archives have them: `libdoorquill.a`, `libdoorquill_changes.a` for
+//! [`doorquill_read_changes`], `libdoorquill_back.a` for [`doorquill_read_back`] and `libbench.a` for
+//! [`doorquill_bench`]; in a release all in one.
 //!
 //! These are the only declarations of the calls in the repository; `compare/` takes this very file, so that every
 //! comparison holds them to the port. A slice is a pointer and a length; an empty one may have any pointer. No call

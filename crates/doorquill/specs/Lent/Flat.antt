@@ -6,6 +6,7 @@ use mathlib.Core.Bool.{Bool, cond, _&&_}
 use mathlib.Core.List.{List, map}
 use lib.ListN.{length, getD, set, replicate}
 use lib.Dec.{leb, eqb}
+use denote.Ref.{now}
 use Rattle.slices.specs.Splice.{part}
 use Rattle.tables.specs.Lists.{Lists, lists}
 use Rattle.tables.specs.Checks.{unless, andThen, withinLimit, check1}
@@ -15,6 +16,7 @@ use Rattle.doorquill.specs.declared.Vector.{Vector}
 use Rattle.answers.specs.declared.Answer.{Answer}
 use Rattle.answers.specs.Outcome.{refused, Lent, leaves}
 use Rattle.entries.specs.Entries.{readSections}
+use Rattle.entries.specs.Faces.{Slices}
 use Rattle.doorquill.specs.Lent.{LeftLent}
 
 -- what stands past the last record
@@ -75,3 +77,6 @@ readFlat kinds refs vecs v flat flag s l =
 -- the answer, and what each lent buffer holds
 abbrev pub leftLent : Answer → (flat events values room list : List ℕ) → LeftLent
 leftLent a f e v r l = record { left = record { answer = a; events = e; values = v; room = r; list = l }; flat = f }
+
+abbrev pub leftWith : Answer → (flat events values room list : Slices) → LeftLent
+leftWith a f e v r l = leftLent a (now (f .exit)) (now (e .exit)) (now (v .exit)) (now (r .exit)) (now (l .exit))

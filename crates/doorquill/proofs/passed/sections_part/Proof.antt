@@ -1,38 +1,49 @@
 -- `doorquill::passed::sections_part` meets its contract: what was lent to the reader is the beginning's, and what comes back is the end's. Assumes nothing.
-use Rattle.entries.specs.Begin.{from-laws, lend-bytes, lend-numbers, lent-bytes, lent-numbers, start-asks, run-ended}
+use Rattle.entries.specs.Begin.{from-laws, start-shapes, start-long, lend-bytes, lend-numbers, lent-bytes, lent-numbers, start-asks, run-ended}
 use borrow.Author.Needs.{needs}
 use Rattle.doorquill.proofs.passed.sections_part.Statement.{statement}
 use Rattle.doorquill.proofs.passed.sections_part.Tie as tie
 
 -- before and after `start`
 abbrev begun : tie.After-start → tie.Start
-begun s = s .before .before .before .before .before .before .before .before .before .before .before .before .before .before .before
+begun s = s .before .before .before .before .before .before .before .before .before .before .before
+
+array-copy-out-mins : tie.Need-array-copy-out-mins
+array-copy-out-mins c = search needs
+
+array-copy-out-maxs : tie.Need-array-copy-out-maxs
+array-copy-out-maxs c = search needs
+
+array-copy-out-states : tie.Need-array-copy-out-states
+array-copy-out-states c = search needs
 
 start-requires : tie.Need-start-requires
-start-requires c κs = search (from-laws, needs)
+start-requires c κs =
+    let passed = c .before .before .before .before .before .before .before .before .before .before .pre .0 in
+    (start-shapes _ _ _ _ _ _ passed, start-long _ _ _ _ _ _ passed)
 
-slice-relend-prefix-read-signals : tie.Need-slice-relend-prefix-read-signals
-slice-relend-prefix-read-signals c =
+slice-relend-prefix-read-sections : tie.Need-slice-relend-prefix-read-sections
+slice-relend-prefix-read-sections c =
     let s = c .before .before .before .before in
     lend-bytes _ _ _ _ _ _ (begun s .pre .0) (s .start .ensures .0) (s .start .ensures .1) (begun s .pre .1)
 
-slice-aggregate-read-signals : tie.Need-slice-aggregate-read-signals
-slice-aggregate-read-signals c =
+slice-aggregate-read-sections : tie.Need-slice-aggregate-read-sections
+slice-aggregate-read-sections c =
     let s = c .before .before .before .before .before in
     lent-bytes _ _ _ _ _ _ (begun s .pre .0) (s .start .ensures .0) (s .start .ensures .1) (begun s .pre .1)
 
-slice-relend-prefix-read-signals-2 : tie.Need-slice-relend-prefix-read-signals-2
-slice-relend-prefix-read-signals-2 c =
+slice-relend-prefix-read-sections-2 : tie.Need-slice-relend-prefix-read-sections-2
+slice-relend-prefix-read-sections-2 c =
     let s = c .before .before .before .before .before in
     lend-numbers _ _ _ _ _ _ (begun s .pre .0) (s .start .ensures .0) (s .start .ensures .1) (begun s .pre .1)
 
-slice-aggregate-read-signals-2 : tie.Need-slice-aggregate-read-signals-2
-slice-aggregate-read-signals-2 c =
+slice-aggregate-read-sections-2 : tie.Need-slice-aggregate-read-sections-2
+slice-aggregate-read-sections-2 c =
     let s = c .before .before .before .before .before .before in
     lent-numbers _ _ _ _ _ _ (begun s .pre .0) (s .start .ensures .0) (s .start .ensures .1) (begun s .pre .1)
 
-read-signals-requires : tie.Need-read-signals-requires
-read-signals-requires c κs =
+read-sections-requires : tie.Need-read-sections-requires
+read-sections-requires c κs =
     let s = c .before .before .before .before .before .before .before .before in
     start-asks _ _ _ _ _ _ (begun s .pre .0) (s .start .ensures .0) (s .start .ensures .1) (begun s .pre .1)
 
@@ -51,18 +62,21 @@ same-length-4 c = search (from-laws, needs)
 returns : tie.Need-returns
 returns c =
     let s = c .before .before .before .before .before .before .before .before .before .before .before .before .before .before .before .before .before in
-    run-ended _ _ _ _ _ _ (begun s .pre .0) (s .start .ensures .0) (s .start .ensures .1) (begun s .pre .1) (c .before .before .before .before .before .before .before .before .read-signals .ensures) (search needs) (search needs)
+    run-ended _ _ _ _ _ _ (begun s .pre .0) (s .start .ensures .0) (s .start .ensures .1) (begun s .pre .1) (c .before .before .before .before .before .before .before .before .read-sections .ensures) (search needs) (search needs)
 
 pub sections-part-spec : {M : Type 1} → statement M
 sections-part-spec =
     tie.close
     (tie.spec
+    array-copy-out-mins
+    array-copy-out-maxs
+    array-copy-out-states
     start-requires
-    slice-relend-prefix-read-signals
-    slice-aggregate-read-signals
-    slice-relend-prefix-read-signals-2
-    slice-aggregate-read-signals-2
-    read-signals-requires
+    slice-relend-prefix-read-sections
+    slice-aggregate-read-sections
+    slice-relend-prefix-read-sections-2
+    slice-aggregate-read-sections-2
+    read-sections-requires
     same-length
     same-length-2
     same-length-3

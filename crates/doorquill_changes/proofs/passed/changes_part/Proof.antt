@@ -1,8 +1,8 @@
--- `doorquill::passed::changes_part` meets its contract: what was lent to the reader is the beginning's, and what comes back is the end's. Assumes nothing.
+-- `doorquill_changes::passed::changes_part` meets its contract: what was lent to the reader is the beginning's, and what comes back is the end's. Assumes nothing.
 use Rattle.entries.specs.Begin.{from-laws, lend-bytes, lend-numbers, lent-bytes, lent-numbers, start-asks, run-ended}
 use borrow.Author.Needs.{needs}
-use Rattle.doorquill.proofs.passed.changes_part.Statement.{statement}
-use Rattle.doorquill.proofs.passed.changes_part.Tie as tie
+use Rattle.doorquill_changes.proofs.passed.changes_part.Statement.{statement}
+use Rattle.doorquill_changes.proofs.passed.changes_part.Tie as tie
 
 -- before and after `start`
 abbrev begun : tie.After-start → tie.Start

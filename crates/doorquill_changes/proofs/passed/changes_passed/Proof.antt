@@ -1,8 +1,8 @@
--- `doorquill::passed::changes_passed` meets its contract: each need follows from `passed-laws`. Assumes nothing.
+-- `doorquill_changes::passed::changes_passed` meets its contract: each need follows from `passed-laws`. Assumes nothing.
 use Rattle.entries.specs.Begin.{passed-laws, ask-total}
 use borrow.Author.Needs.{needs}
-use Rattle.doorquill.proofs.passed.changes_passed.Statement.{statement}
-use Rattle.doorquill.proofs.passed.changes_passed.Tie as tie
+use Rattle.doorquill_changes.proofs.passed.changes_passed.Statement.{statement}
+use Rattle.doorquill_changes.proofs.passed.changes_passed.Tie as tie
 
 total-bytes-requires : tie.Need-total-bytes-requires
 total-bytes-requires c κs = ask-total _ _ _ _ _ _ (c .before .before .before .before .before .before .before .before .before .before .before .before .pre)

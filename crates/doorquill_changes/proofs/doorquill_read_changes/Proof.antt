@@ -1,8 +1,8 @@
--- `doorquill::doorquill_read_changes` meets its contract: each need follows from `entry-laws`. Assumes nothing.
+-- `doorquill_changes::doorquill_read_changes` meets its contract: each need follows from `entry-laws`. Assumes nothing.
 use Rattle.entries.specs.Begin.{entry-laws, ask-passed}
 use borrow.Author.Needs.{needs}
-use Rattle.doorquill.proofs.doorquill_read_changes.Statement.{statement}
-use Rattle.doorquill.proofs.doorquill_read_changes.Tie as tie
+use Rattle.doorquill_changes.proofs.doorquill_read_changes.Statement.{statement}
+use Rattle.doorquill_changes.proofs.doorquill_read_changes.Tie as tie
 
 checks-requires : tie.Need-checks-requires
 checks-requires c κs = search (entry-laws, needs)

@@ -1,9 +1,9 @@
--- `doorquill::doorquill_read_back` meets its contract: each need follows from `entry-laws`, `filled-laws`. Assumes nothing.
+-- `doorquill_back::doorquill_read_back` meets its contract: each need follows from `entry-laws`, `filled-laws`. Assumes nothing.
 use Rattle.answers.specs.Filled.{filled-laws}
 use Rattle.entries.specs.Written.Laws.{entry-laws}
 use borrow.Author.Needs.{needs}
-use Rattle.doorquill.proofs.doorquill_read_back.Statement.{statement}
-use Rattle.doorquill.proofs.doorquill_read_back.Tie as tie
+use Rattle.doorquill_back.proofs.doorquill_read_back.Statement.{statement}
+use Rattle.doorquill_back.proofs.doorquill_read_back.Tie as tie
 
 checks-without-room-requires : tie.Need-checks-without-room-requires
 checks-without-room-requires c κs = search (entry-laws, filled-laws, needs)
