@@ -17,8 +17,6 @@ pub mod Whole
 pub mod Record
 pub mod Found
 pub mod Items
-pub mod Turn
-pub mod Loop
 pub mod Steps
 
 -- "1 time (8 bytes) ..; 2 byte write (id, 1 byte ..) ..; 3 wide write (id, 8 bytes ..) ..; 4 step end (no body)": the length of a record, its kind byte included; 0 for "unknown house kind"

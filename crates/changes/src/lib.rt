@@ -1,6 +1,4 @@
-// Change reading.
-use gather::Gathered;
-use gather::Part;
+// Change records: what stands at a place.
 use numbers::house::get_u32;
 use numbers::house::get_u64;
 use section_heads::Item;
@@ -182,14 +180,4 @@ pub fn record_item(kinds: &[u8], s: &[u8], inside: bool, at: usize) -> Item
         Change::End(next) => item_of(next, Said::Over, 0),
         Change::Bad(number, place) => item_of(place, Said::Bad(number), 0),
     }
-}
-
-// After one record: the reading goes on, or it is over.
-pub enum Turn {
-    More {
-        inside: bool,
-        next: usize,
-        c: Gathered,
-    },
-    Over(Part),
 }

@@ -14,7 +14,7 @@ use Rattle.gather.specs.declared.Part.the-variants as part
 use Rattle.gather.specs.Run.{Scan}
 use Rattle.gather.specs.Memory.{Mem, Tabled}
 use Rattle.gather.specs.Follows.{Asks}
-use Rattle.section_parts.specs.Sections.Going.{Sized}
+use Rattle.gather.specs.Memory.{Sized}
 use Rattle.section_heads.specs.declared.How.{How}
 use Rattle.section_heads.specs.declared.Phase.{Phase}
 use Rattle.section_heads.specs.declared.Stand.{Stand}

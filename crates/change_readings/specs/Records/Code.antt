@@ -14,7 +14,7 @@ use Rattle.gather.specs.declared.Part.the-variants as part
 use Rattle.gather.specs.Run.{Scan, run}
 use Rattle.gather.specs.Memory.{Mem, HoldsAt}
 use Rattle.gather.specs.Follows.{Asks, Runs}
-use Rattle.section_parts.specs.Sections.Going.{Sized, sized-self}
+use Rattle.gather.specs.Memory.{Sized, sized-self}
 use Rattle.turns.specs.declared.Gathered.{Gathered}
 use Rattle.turns.specs.Goes.{Holding}
 use Rattle.vector_turns.specs.OneVector.{begun, nextStep}

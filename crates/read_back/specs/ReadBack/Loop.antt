@@ -16,7 +16,7 @@ use Rattle.written.specs.Ended.{refused, Fills}
 use Rattle.written.specs.Put.{Lies}
 use Rattle.tables.specs.Lists.{Lists}
 use Rattle.gather.specs.Run.{Scan}
-use Rattle.section_parts.specs.Parts.{withKinds}
+use Rattle.section_parts.specs.Sections.{withKinds}
 use Rattle.section_heads.specs.Heads.{standing}
 use Rattle.section_heads.specs.declared.How.{How}
 use Rattle.section_heads.specs.declared.Phase.the-variants.{Mark}

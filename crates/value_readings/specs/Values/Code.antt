@@ -9,7 +9,7 @@ use Rattle.tables.specs.Lists.{Lists}
 use Rattle.gather.specs.declared.Gathered as between
 use Rattle.gather.specs.declared.Part.the-variants as part
 use Rattle.gather.specs.Memory.{Mem}
-use Rattle.section_parts.specs.Sections.Going.{Sized, sized-self}
+use Rattle.gather.specs.Memory.{Sized, sized-self}
 use Rattle.section_heads.specs.declared.How.{How}
 use Rattle.section_heads.specs.declared.Phase.{Phase}
 use Rattle.section_heads.specs.declared.Stand.{Stand}
