@@ -16,8 +16,7 @@ use Rattle.changes.specs.declared.Change.the-variants.{Time, Write, Step
 pub mod Whole
 pub mod Record
 pub mod Found
-pub mod Turn
-pub mod Loop
+pub mod Items
 pub mod Steps
 
 -- "1 time (8 bytes) ..; 2 byte write (id, 1 byte ..) ..; 3 wide write (id, 8 bytes ..) ..; 4 step end (no body)": the length of a record, its kind byte included; 0 for "unknown house kind"

@@ -1,8 +1,11 @@
-// Change reading.
-use gather::Gathered;
-use gather::Part;
+// Change records: what stands at a place.
 use numbers::house::get_u32;
 use numbers::house::get_u64;
+use section_heads::Item;
+use section_heads::Phase;
+use section_heads::Said;
+use section_heads::goes;
+use section_heads::standing;
 use values::Read;
 use values::read_narrow;
 ghost use mathlib.Core.Path.{_≡_};
@@ -14,6 +17,7 @@ ghost use Rattle.tables.specs.Lists.{nth};
 ghost use Rattle.changes.specs.Changes.{recordLength, written, writeRecord, inOrder, changeRecord, nextChange};
 ghost use Rattle.changes.specs.Changes.Record.{ofKinds};
 ghost use Rattle.changes.specs.Changes.Whole.{Whole, Writes};
+ghost use Rattle.changes.specs.Changes.Items.{recordItem, ofRecord};
 
 // What a change record says and the place after it, or the input's end between steps, or a refusal.
 pub enum Change {
@@ -158,12 +162,22 @@ pub fn next_change(kinds: &[u8], s: &[u8], inside: bool, at: usize) -> Change
     change_record(kinds, s, inside, at)
 }
 
-// After one record: the reading goes on, or it is over.
-pub enum Turn {
-    More {
-        inside: bool,
-        next: usize,
-        c: Gathered,
-    },
-    Over(Part),
+// An item of change records; an id with a write.
+fn item_of(at: usize, said: Said, id: usize) -> Item
+    ensures { λ r. ⌜ r ≡ ofRecord at said id ⌝ }
+{
+    goes(at, said, standing(Phase::Mark, id, 0))
+}
+
+// What stands at a place, as an item.
+pub fn record_item(kinds: &[u8], s: &[u8], inside: bool, at: usize) -> Item
+    ensures { λ r. ⌜ r ≡ recordItem (now (kinds .entry)) (now (s .entry)) inside at ⌝ }
+{
+    match next_change(kinds, s, inside, at) {
+        Change::Time(u, next) => item_of(next, Said::Time(u), 0),
+        Change::Write { id, value, next } => item_of(next, Said::Write { value, id }, id),
+        Change::StepEnd(next) => item_of(next, Said::StepEnd, 0),
+        Change::End(next) => item_of(next, Said::Over, 0),
+        Change::Bad(number, place) => item_of(place, Said::Bad(number), 0),
+    }
 }

@@ -11,14 +11,14 @@ ghost use Rattle.entries.specs.Entries.{readChanges};
 ghost use Rattle.entries.specs.Faces.{tables, lent, left};
 
 #[no_mangle]
-pub extern "C" fn doorquill_read_changes(
-    kinds: &[u8],
-    refs: &[u32],
-    vecs: &[u32],
-    mins: &[u32],
-    maxs: &[u32],
-    states: &[u8],
-    vec_refs: &[u32],
+pub extern "C" fn doorquill_read_changes<'a>(
+    kinds: &'a [u8],
+    refs: &'a [u32],
+    vecs: &'a [u32],
+    mins: &'a [u32],
+    maxs: &'a [u32],
+    states: &'a [u8],
+    vec_refs: &'a [u32],
     input: &[u8],
     events: &mut [u8],
     values: &mut [u8],
@@ -44,13 +44,8 @@ pub extern "C" fn doorquill_read_changes(
         list.len(),
     ) {
         Check::Passed => changes_passed(
-            kinds,
-            refs,
-            vecs,
-            mins,
-            maxs,
-            states,
-            vec_refs,
+            [kinds, states],
+            [refs, vecs, mins, maxs, vec_refs],
             input,
             events,
             values,

@@ -1,9 +1,18 @@
 // Change reading, over tables that passed their checks.
 use answers::Answer;
-use change_reading::read_changes;
+use change_readings::read_changes;
 use checks::total_bytes;
 use gather::Gathered;
 use gather::Part;
+use item_turns::Bytes;
+use item_turns::KINDS;
+use item_turns::MAXS;
+use item_turns::MINS;
+use item_turns::Numbers;
+use item_turns::REFS;
+use item_turns::STATES;
+use item_turns::VEC_REFS;
+use item_turns::VECS;
 use reading_ends::finish;
 use reading_ends::start;
 use records::Counts;
@@ -12,30 +21,30 @@ ghost use lib.ListN.{length};
 ghost use Rattle.tables.specs.Layout.{layoutOf, totalBytes};
 ghost use Rattle.changes.specs.Changes.{scanChanges};
 ghost use Rattle.answers.specs.Outcome.{leaves};
-ghost use Rattle.entries.specs.Faces.{given, tables, Checked, ran, Over, lent, left};
+ghost use Rattle.item_turns.specs.Lent.{tables};
+ghost use Rattle.entries.specs.Faces.{Checked, ran, Over, lent, left};
 
 // The acts of all change records.
-fn changes_part(
-    kinds: &[u8],
-    refs: &[u32],
-    vecs: &[u32],
-    mins: &[u32],
-    maxs: &[u32],
-    states: &[u8],
-    vec_refs: &[u32],
+fn changes_part<'a>(
+    b: Bytes<'a>,
+    n: Numbers<'a>,
     input: &[u8],
     events: &mut [u8],
     values: &mut [u8],
     room: &mut [u8],
     list: &mut [u32],
-    n: usize,
+    need: usize,
 ) -> Part
-    requires { let t = given kinds refs vecs mins maxs states «vec_refs» in
-        ⌜ Checked t input events values room list × (n ≡ totalBytes (layoutOf t)) ⌝ }
+    requires { let t = tables b n in
+        ⌜ Checked t input events values room list × (need ≡ totalBytes (layoutOf t)) ⌝ }
     ensures { λ r.
-        let t = tables kinds refs vecs mins maxs states «vec_refs» in
-        ⌜ Over n (length (t .mins)) r events values room list (ran t events values (scanChanges t (now (input .entry)))) ⌝ }
+        let t = tables (b .entry) (n .entry) in
+        ⌜ Over need (length (t .mins)) r events values room list
+        (ran t events values (scanChanges t (now (input .entry)))) ⌝ }
 {
+    let mins = n[MINS];
+    let maxs = n[MAXS];
+    let states = b[STATES];
     start(mins, maxs, states, room, list);
     let c = Gathered {
         listed: 0,
@@ -46,15 +55,10 @@ fn changes_part(
         },
     };
     read_changes(
-        kinds,
-        refs,
-        vecs,
-        mins,
-        maxs,
-        states,
-        vec_refs,
+        b,
+        n,
         input,
-        &mut room[..n],
+        &mut room[..need],
         &mut list[..mins.len()],
         events,
         values,
@@ -62,41 +66,29 @@ fn changes_part(
     )
 }
 
-pub(crate) fn changes_passed(
-    kinds: &[u8],
-    refs: &[u32],
-    vecs: &[u32],
-    mins: &[u32],
-    maxs: &[u32],
-    states: &[u8],
-    vec_refs: &[u32],
+pub(crate) fn changes_passed<'a>(
+    b: Bytes<'a>,
+    n: Numbers<'a>,
     input: &[u8],
     events: &mut [u8],
     values: &mut [u8],
     room: &mut [u8],
     list: &mut [u32],
 ) -> Answer
-    requires { ⌜ Checked (given kinds refs vecs mins maxs states «vec_refs») input events values room list ⌝ }
+    requires { ⌜ Checked (tables b n) input events values room list ⌝ }
     ensures { λ r.
-        let t = tables kinds refs vecs mins maxs states «vec_refs» in
+        let t = tables (b .entry) (n .entry) in
         ⌜ left r events values room list
         ≡ leaves (lent events values room list) (ran t events values (scanChanges t (now (input .entry)))) ⌝ }
 {
-    let n = total_bytes(kinds, refs, vecs, mins, maxs, states, vec_refs);
-    let part = changes_part(
-        kinds,
-        refs,
-        vecs,
-        mins,
-        maxs,
-        states,
-        vec_refs,
-        input,
-        events,
-        values,
-        room,
-        list,
-        n,
-    );
-    finish(events, values, room, list, n, mins.len(), part)
+    let kinds = b[KINDS];
+    let states = b[STATES];
+    let refs = n[REFS];
+    let vecs = n[VECS];
+    let mins = n[MINS];
+    let maxs = n[MAXS];
+    let vec_refs = n[VEC_REFS];
+    let need = total_bytes(kinds, refs, vecs, mins, maxs, states, vec_refs);
+    let part = changes_part(b, n, input, events, values, room, list, need);
+    finish(events, values, room, list, need, mins.len(), part)
 }

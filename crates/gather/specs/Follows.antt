@@ -1,6 +1,6 @@
 -- What code that follows the acts promises: for every state of the gatherer and of the rooms that the memory holds before, it holds afterwards what the definitions say.
 -- Assumes nothing.
-use mathlib.Core.Path.{_≡_, refl, _∙_}
+use mathlib.Core.Path.{_≡_, refl}
 use Prim.Native.Nat.{ℕ}
 use mathlib.Core.Option.{Option, none, some}
 use Rattle.tables.specs.Lists.{Lists}
@@ -10,10 +10,13 @@ use Rattle.gather.specs.Run.{Scan, say, done, fault, and-then, Went, wen
 use Rattle.gather.specs.Run.Laws.{went-on, run-and-then}
 use Rattle.gather.specs.Memory.{Mem, Tabled, Holds, Roomy}
 use Rattle.gather.specs.declared.Gathered.{Gathered}
-use Rattle.gather.specs.declared.Wrote.{Wrote}
-use Rattle.gather.specs.declared.Wrote.the-variants.{Done, Full}
 use Rattle.gather.specs.declared.Part.{Part}
 use Rattle.gather.specs.declared.Part.the-variants as part
+
+-- after one act: what is then listed and counted, or an event does not fit
+pub data Wrote : Type 0 where
+  Done : Gathered → Wrote
+  Full : Wrote
 
 -- one act: its events fit, and the memory holds what follows; or one does not
 abbrev pub Follows : Lists → Rooms → Mem → Wrote → State → Option Out → Type 0

@@ -4,5 +4,4 @@ pub mod Follows
 pub mod Makes
 pub mod Writes
 pub mod Quiet
-pub mod Ends
 pub mod Begin

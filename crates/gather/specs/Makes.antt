@@ -1,16 +1,16 @@
 -- What the parts of a write and of a step's end promise: for every state that the memory holds before, the events that are appended and the state that it holds afterwards.
 -- Assumes nothing.
 use mathlib.Core.Path.{_≡_}
-use Prim.Native.Nat.{ℕ, suc, _^_, _<_}
+use Prim.Native.Nat.{ℕ, suc, _<_}
 use mathlib.Core.Bool.{Bool, true, cond, _&&_}
 use mathlib.Core.Option.{Option, none, some}
 use mathlib.Core.List.{List, [], _∷_, _++_}
 use lib.ListN.{getD}
-use Rattle.states.specs.Kind.{bits, stateOf}
+use Rattle.states.specs.Kind.{stateOf}
 use Rattle.states.specs.Packed.{packed}
 use Rattle.tables.specs.Lists.{Lists}
 use Rattle.tables.specs.Layout.{layoutOf}
-use Rattle.rules.specs.Vector.{Write, Vec, all, any, clashes, actsEarly}
+use Rattle.rules.specs.Vector.{Write, Vec, all, clashes, actsEarly}
 use Rattle.rules.specs.Gather.{State}
 use Rattle.records.specs.Event.{Event, value}
 use Rattle.records.specs.Out.{Rooms, Out, appendAll}
@@ -18,8 +18,7 @@ use Rattle.vecmarks.specs.Info.{infoAt}
 use Rattle.vecbuffer.specs.Stands.{flagsAt, storing, clearing}
 use Rattle.gather.specs.Memory.{Mem, memOf, HoldsAt}
 use Rattle.gather.specs.declared.Gathered.{Gathered}
-use Rattle.gather.specs.declared.Wrote.{Wrote}
-use Rattle.gather.specs.declared.Wrote.the-variants.{Done, Full}
+use Rattle.gather.specs.Follows.{Wrote, Done, Full}
 use Rattle.gather.specs.declared.VecInfo.{VecInfo}
 pub mod Laws
 pub mod Code
@@ -60,10 +59,6 @@ rewrites bit x y = clashes y (writeOf bit x)
 unfoldable pub completes : ℕ → Vec → Bool
 completes width y = actsEarly width && all (y .marks)
 
--- "each vector with marks"
-unfoldable pub hasMarks : Vec → Bool
-hasMarks y = any (y .marks)
-
 -- (a), (b) and (c), one after the other
 unfoldable pub storedState : (v bit x : ℕ) → State → State
 storedState v bit x g = storing (shownState v (rewrites bit x) g) v (writeOf bit x)
@@ -86,31 +81,3 @@ pub record Makes (t : Lists) (i j : ℕ) (m m' : Mem) (c : Gathered) (w : Wrote)
 -- an event of a vector, where a test of it says so
 pub record Shown (x : VecInfo) (room events values : List ℕ) (c : Gathered) (room' events' values' : List ℕ) (w : Wrote) (test : Vec → Bool) : Type 0 where
   pub shown : (t : Lists) (v : ℕ) (list : List ℕ) (i : ℕ) → Seen t v x → Makes t i i (memOf room list events values) (memOf room' list events' values') c w (shownEvents t v test) (shownState v test)
-
--- a write to a bit of a vector
-pub record WroteBit (y : VecInfo) (bit x : ℕ) (room list events values : List ℕ) (c : Gathered) (room' list' events' values' : List ℕ) (w : Wrote) : Type 0 where
-  pub wrote : (t : Lists) (v : ℕ) → Seen t v y → Makes t 0 0 (memOf room list events values) (memOf room' list' events' values') c w (bitEvents t v bit x) (bitState t v bit x)
-
--- what code over a vector asks: memory that holds some state
-pub record Shows (room events values : List ℕ) (c : Gathered) (x : VecInfo) : Type 0 where
-  pub tables : Lists
-  pub vector : ℕ
-  pub list : List ℕ
-  pub at : ℕ
-  pub rooms : Rooms
-  pub state : State
-  pub output : Out
-  pub holds : HoldsAt tables rooms (memOf room list events values) at c state output
-  pub seen : Seen tables vector x
-
--- .. and, of a write to one of its bits, a bit and a value that suit the vector
-pub record Puts (room list events values : List ℕ) (c : Gathered) (y : VecInfo) (bit x : ℕ) : Type 0 where
-  pub tables : Lists
-  pub vector : ℕ
-  pub rooms : Rooms
-  pub state : State
-  pub output : Out
-  pub holds : HoldsAt tables rooms (memOf room list events values) 0 c state output
-  pub seen : Seen tables vector y
-  pub inside : bit < y .info .width
-  pub small : x < 2 ^ bits (y .info .states)

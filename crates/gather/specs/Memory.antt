@@ -1,12 +1,13 @@
 -- The lent memory, and the state of the gatherer and of the rooms that it holds.
 -- Assumes nothing.
-use mathlib.Core.Path.{_≡_}
+use mathlib.Core.Path.{_≡_, refl}
 use Prim.Native.Nat.{ℕ, _<_, _≤_}
 use mathlib.Core.List.{List}
-use lib.ListN.{getD}
+use lib.ListN.{length, getD}
 use Rattle.tables.specs.Lists.{Lists}
 use Rattle.tables.specs.Layout.{Layout, layoutOf, totalBytes}
-use Rattle.tables.specs.Good.{Sized, Ranged, Signals, Named}
+use Rattle.tables.specs.Good as good
+use Rattle.tables.specs.Good.{Ranged, Signals, Named}
 use Rattle.rules.specs.Gather.{State}
 use Rattle.records.specs.Out.{Rooms, Out}
 use Rattle.records.specs.Out.Laws.{EventsRoom, ValuesRoom, Written}
@@ -24,9 +25,19 @@ pub record Mem : Type 0 where
 abbrev pub memOf : (room list events values : List ℕ) → Mem
 memOf room list events values = record { room = room; list = list; events = events; values = values }
 
+-- the lent buffers keep their lengths
+pub record Sized (m m' : Mem) : Type 0 where
+  pub room : length (m' .room) ≡ length (m .room)
+  pub list : length (m' .list) ≡ length (m .list)
+  pub events : length (m' .events) ≡ length (m .events)
+  pub values : length (m' .values) ≡ length (m .values)
+
+pub sized-self : {m : Mem} → Sized m m
+sized-self = record { room = refl; list = refl; events = refl; values = refl }
+
 -- what tables that passed their checks give
 pub record Tabled (t : Lists) : Type 0 where
-  pub sized : Sized t
+  pub sized : good.Sized t
   pub ranged : Ranged t
   pub signals : Signals t
   pub named : Named t

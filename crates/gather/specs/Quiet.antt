@@ -1,16 +1,16 @@
 -- A write that makes no event and lists nothing: the vector has marks and is listed, and neither the bit nor bit 0, which is another, is marked.
 -- Assumes nothing.
-use mathlib.Core.Path.{_≡_, refl, sym, ap, _∙_}
-use Prim.Native.Nat.{ℕ, suc, _-_, _^_, _<_, _≤_}
+use mathlib.Core.Path.{_≡_, refl, sym, _∙_}
+use Prim.Native.Nat.{ℕ, suc, _-_, _^_, _<_}
 use mathlib.Core.Bool.{Bool, true, false, _&&_}
-use mathlib.Core.List.{List, [], _∷_, _++_}
+use mathlib.Core.List.{List, [], _∷_}
 use native.Mathlib.Omega.{arith}
 use borrow.Author.Tests.{eq-eqb}
 use lib.ListN.{length, getD}
 use Rattle.states.specs.Kind.{bits}
 use Rattle.tables.specs.Lists.{Lists, nth}
 use Rattle.tables.specs.Layout.{layoutOf}
-use Rattle.rules.specs.Vector.{Write, all, actsEarly, stored}
+use Rattle.rules.specs.Vector.{all, actsEarly, stored}
 use Rattle.rules.specs.Gather.{State, with, width, write}
 use Rattle.records.specs.Out.{Rooms, Out, appendAll}
 use Rattle.vecmarks.specs.Info.{infoAt, isMarked, isSecond, isQuiet, withBit}
@@ -20,9 +20,8 @@ use Rattle.vecbuffer.specs.Stands.Laws.{second-is, stands-quiet, stays-quiet, q
 use Rattle.gather.specs.Run.{gathers}
 use Rattle.gather.specs.Memory.{memOf, HoldsAt}
 use Rattle.gather.specs.Memory.Laws.{clean-stored}
-use Rattle.gather.specs.Follows.{Acts}
+use Rattle.gather.specs.Follows.{Done, Acts}
 use Rattle.gather.specs.declared.Gathered.{Gathered}
-use Rattle.gather.specs.declared.Wrote.the-variants.{Done}
 use Rattle.gather.specs.Makes.{Makes, shownEvents, shownState, writeOf, rewrites, completes, storedState, bitEvents, bitState}
 use Rattle.gather.specs.Makes.Laws.{acts-bit}
 

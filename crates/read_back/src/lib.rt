@@ -18,7 +18,7 @@ ghost use lib.ListN.{length};
 ghost use mathlib.Core.List.{_∷_};
 ghost use Rattle.slices.specs.Field.{fieldOf};
 ghost use Rattle.numbers.specs.Fixed.{bigBytes};
-ghost use Rattle.section_parts.specs.Parts.{withKinds};
+ghost use Rattle.section_parts.specs.Sections.{withKinds};
 ghost use Rattle.sections.specs.Item.Scans.{saidTimes};
 ghost use Rattle.written.specs.Ended.{Fills};
 ghost use Rattle.written.specs.Put.{Puts, afterPut};

@@ -1,4 +1,5 @@
 -- The definitions that the promises of `readings` cite.
 -- Assumes nothing.
-pub mod Steps
+pub mod Heads
+pub mod Step
 pub mod Whole

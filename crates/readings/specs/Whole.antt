@@ -16,7 +16,7 @@ use Rattle.gather.specs.Run.{Scan, say, done, fault, run}
 use Rattle.gather.specs.Memory.{Mem}
 use Rattle.gather.specs.Follows.{Asks, Runs}
 use Rattle.section_parts.specs.Sections.{scanSections}
-use Rattle.section_parts.specs.Sections.Going.{Sized, sized-self}
+use Rattle.gather.specs.Memory.{Sized, sized-self}
 use Rattle.section_heads.specs.declared.How.{How}
 use Rattle.section_heads.specs.declared.Phase.{Phase}
 use Rattle.section_heads.specs.declared.Phase.the-variants.{Mark, Closing, Between}
@@ -29,8 +29,10 @@ use Rattle.sections.specs.Item.{isEach, inValues, afterValues, headItem}
 use Rattle.sections.specs.Item.Scans.{sayOf, rank, toRead, Left, GoesOn, FollowsBy, left-all}
 use Rattle.vector_turns.specs.OneVector.{begun}
 use Rattle.item_turns.specs.Leads.{Leads, leads-self, leads-then, leads-quits, Quits}
-use Rattle.readings.specs.Steps.{ValuesAsk, behindOf, EndsBy, Opened}
-use Rattle.readings.specs.Steps.Scanner.{HeadBy, IsHead, head-says, head-follows}
+use Rattle.item_acts.specs.Moves.{Says}
+use Rattle.value_readings.specs.Values.{ValuesAsk, behindOf, EndsBy}
+use Rattle.readings.specs.Heads.{HeadBy, IsHead, head-says, head-follows}
+use Rattle.readings.specs.Step.{Opened}
 
 -- what is left from here is what was left from the first section on
 pub record OnSections (t : Lists) (how : How) (s : List ℕ) (m₀ : Mem) (c₀ : Gathered) (m : Mem) (c : Gathered) (x : Stand) (i : ℕ) : Type 0 where
@@ -114,18 +116,21 @@ module _ {t : Lists} {how : How} {s : List ℕ} {m₀ : Mem} {c₀ : Gathered} {
       sections-ask = record { asks = o .asks; values = says (Time u) d .0; first = says (Time u) d .1; inside = begins .left .inside }
 
       module _ {m' : Mem} {r : Part} (f : Opened t s m c y m' r) where
+        said : Says (time (y .then .time)) (y .at) (Left t how s (y .then) (y .at)) (o .rest)
+        said = record { rest = begins .rest; scans = scans; left = begins .left }
+
         pub sections-out : {n p : ℕ} → r ≡ part.Out n p → Runs t m₀ m' c₀ (part.Out n p) (scanSections t (how .«big_endian») s)
         sections-out {n} {p} z =
-            let k = leads-quits (o .leads) (subst (λ (v : Scan). Quits t m (begun c) v n p) (sym scans) ((rw z at (f .ends)) .refuses how (begins .rest) (begins .left))) in
+            let k = leads-quits (o .leads) ((rw z at (f .ends)) how .refuses (o .rest) said) in
             record { runs = λ r g p h. k .quits r g p h }
 
         module _ {j : ℕ} {k : Gathered} (z : r ≡ part.Went j k) where
-          ends : EndsBy t s (say (time (y .then .time)) (y .at)) m c y m' (part.Went j k)
+          ends : EndsBy t s (Says (time (y .then .time)) (y .at)) m c y m' (part.Went j k)
           ends = rw z at (f .ends)
 
           pub sections-on : Sized m m' → {x' : Stand} → x' ≡ behindOf y → OnSections t how s m₀ c₀ m' k x' j
           sections-on l w =
-              let v = ends .moves how (begins .rest) (begins .left) in
+              let v = ends .1 how .moves (o .rest) said in
               let n = v .2 .leads (o .asks .rooms) (o .asks .state) (o .asks .output) (o .asks .holds) in
               rw w
               (record {
@@ -134,10 +139,10 @@ module _ {t : Lists} {how : How} {s : List ℕ} {m₀ : Mem} {c₀ : Gathered} {
                 heads = after-head (y .then .phase);
                 rest = v .0;
                 here = v .1;
-                leads = leads-then (subst (λ (u : Scan). Leads t m₀ (begun c₀) whole m (begun c) u) scans (o .leads)) (v .2);
+                leads = leads-then (o .leads) (v .2);
               })
 
           pub sections-less : {x' : Stand} → x' ≡ behindOf y → toRead s x' j < toRead s x i
-          sections-less w = rw w (omega (arith, ends .ahead, begun-less))
+          sections-less w = rw w (omega (arith, ends .0, begun-less))
 
 pub ruleset sections-laws = (sections-start, sections-sized, sections-over, sections-bad, sections-past, past-less, sections-ask, sections-out, sections-on, sections-less)

@@ -2,7 +2,7 @@
 -- Assumes nothing.
 use Prim.Native.Nat.{ℕ, zero, suc, _+_, _^_}
 use mathlib.Core.Bool.{Bool, cond}
-use mathlib.Core.List.{List, [], _∷_}
+use mathlib.Core.List.{List, []}
 use lib.ListN.{length, replicate}
 use lib.Dec.{ltb, leb, eqb}
 use Rattle.slices.specs.Splice.{part}
@@ -10,7 +10,7 @@ use Rattle.numbers.specs.Fixed.{fixed, negative}
 use Rattle.numbers.specs.Marks.{same, esn, ecy, eod, sectionOf}
 use Rattle.numbers.specs.declared.marks.Section.{Section}
 use Rattle.numbers.specs.declared.marks.Section.the-variants.{Snapshot, Cycle, Directory, Tailer, Unknown}
-use Rattle.tables.specs.Lists.{Lists, nth, signals}
+use Rattle.tables.specs.Lists.{Lists, lists, nth, signals}
 use Rattle.values.specs.declared.Read.{Read}
 use Rattle.values.specs.declared.Read.the-variants.{Bad}
 use Rattle.values.specs.Value.{onRead, unsigned, signed, value}
@@ -21,18 +21,11 @@ use Rattle.section_parts.specs.declared.NextId.the-variants as ids
 use Rattle.section_parts.specs.declared.NextTime.{NextTime}
 use Rattle.section_parts.specs.declared.NextTime.the-variants as times
 pub mod Deltas
-pub mod Scans
-pub mod Places
-pub mod Directories
-pub mod Acts
-pub mod Going
-pub mod Ends
-pub mod Loops
-pub mod Steps
-pub mod Cycles
-pub mod Heads
-pub mod All
 pub mod Stepped
+
+-- tables of signals of these kinds: of tables, ids are judged by the number of signals alone
+abbrev pub withKinds : List ℕ → Lists
+withKinds kinds = lists kinds [] [] [] [] [] []
 
 abbrev pub then : Read → (ℕ → ℕ → Scan) → Scan
 then r k = onRead r fault k

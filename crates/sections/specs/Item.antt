@@ -9,7 +9,7 @@ use Rattle.tables.specs.Lists.{nth}
 use Rattle.values.specs.declared.Read.{Read}
 use Rattle.values.specs.declared.Read.the-variants as read
 use Rattle.values.specs.Value.{onRead, value}
-use Rattle.section_parts.specs.Parts.{withKinds}
+use Rattle.section_parts.specs.Sections.{withKinds}
 use Rattle.section_parts.specs.Sections.{nextId, nextTime}
 use Rattle.section_parts.specs.declared.NextTime as scanned
 use Rattle.section_parts.specs.declared.NextTime.the-variants as times

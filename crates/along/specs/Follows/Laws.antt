@@ -22,10 +22,9 @@ use Rattle.vecbuffer.specs.Stands.{flagsAt}
 use Rattle.vecbuffer.specs.Stands.Laws.{asks-vector, asks-flags, asks-known}
 use Rattle.gather.specs.declared.Gathered.{Gathered}
 use Rattle.gather.specs.declared.VecInfo.{VecInfo}
-use Rattle.gather.specs.declared.Wrote.the-variants.{Done}
+use Rattle.gather.specs.Follows.{Done, Acts}
 use Rattle.gather.specs.Run.{gathers, Scan, say, fitted, acted, after, run}
 use Rattle.gather.specs.Memory.{memOf, Tabled, HoldsAt, Holds}
-use Rattle.gather.specs.Follows.{Acts}
 use Rattle.gather.specs.Makes.{Seen}
 use Rattle.gather.specs.Quiet.{acts-quietly, quietly-on}
 use Rattle.runs.specs.Along.{bitMost, bitMap, Taken}

@@ -13,22 +13,18 @@ use Rattle.tables.specs.Lists.{Lists, nth}
 use Rattle.tables.specs.Layout.{layoutOf}
 use Rattle.rules.specs.Vector.{Write, Cause, rewritten, complete, Vec, all, cleared, fires, clashes, stored, actsEarly, act}
 use Rattle.rules.specs.Vector as op
-use Rattle.rules.specs.Gather as gather
-use Rattle.rules.specs.Gather.{Act, write, Happening, at, single, of, ends, State, with, list, width, bitWrite, toVector, toward, does}
+use Rattle.rules.specs.Gather.{write, Happening, at, single, of, ends, State, with, list, width, bitWrite, toVector, toward, does}
 use Rattle.records.specs.declared.Put.{Put}
 use Rattle.records.specs.declared.Put.the-variants as put
-use Rattle.records.specs.Event.{Event, time}
+use Rattle.records.specs.Event.{Event}
 use Rattle.records.specs.Out.{Rooms, Out, appendAll}
-use Rattle.records.specs.Out.Laws.{Appends, all-append, all-none}
 use Rattle.vecbuffer.specs.Stands.{storing, clearing}
 use Rattle.vecbuffer.specs.Stands.Laws.{stands-as}
-use Rattle.gather.specs.Run.{gathers, alone, ofVector, eventsOf, acted, after}
-use Rattle.gather.specs.Memory.{Mem, memOf, HoldsAt}
-use Rattle.gather.specs.Follows.{Acts, Follows}
+use Rattle.gather.specs.Run.{gathers, ofVector, eventsOf, acted, after}
+use Rattle.gather.specs.Memory.{Mem, HoldsAt}
+use Rattle.gather.specs.Follows.{Wrote, Done, Full, Acts, Follows}
 use Rattle.gather.specs.declared.Gathered.{Gathered}
-use Rattle.gather.specs.declared.Wrote.{Wrote}
-use Rattle.gather.specs.declared.Wrote.the-variants.{Done, Full}
-use Rattle.gather.specs.Makes.{FollowsAt, Makes, eventOf, shownEvents, shownState, always, writeOf, rewrites, completes, storedState, bitEvents, bitState}
+use Rattle.gather.specs.Makes.{FollowsAt, Makes, eventOf, shownEvents, shownState, writeOf, rewrites, completes, storedState, bitEvents, bitState}
 
 -- the same state, said in another way
 pub holds-as : {t : Lists} {r : Rooms} {m : Mem} {i : ℕ} {c : Gathered} {g : State} {o : Out} (g' : State) → HoldsAt t r m i c g o → ((w : ℕ) → g .vecs w ≡ g' .vecs w) → g .listed ≡ g' .listed → HoldsAt t r m i c g' o
@@ -41,31 +37,6 @@ follows-as t r m i Full g' f e l d = d ∙ f
 pub follows-first : (t : Lists) (r : Rooms) (m : Mem) (w : Wrote) (g : State) (x : Option Out) → FollowsAt t r m 0 w g x → Follows t r m w g x
 follows-first t r m (Done c) g x f = f
 follows-first t r m Full g x f = f
-
--- ---- some parts, and then others
-
-module _ {t : Lists} {i j : ℕ} {m m₁ : Mem} {c : Gathered} {es : State → List Event} {next : State → State} where
-  pub makes-then : {c₁ : Gathered} → Makes t i j m m₁ c (Done c₁) es next → {k : ℕ} {m₂ : Mem} {w : Wrote} {es' : State → List Event} {next' : State → State} → Makes t j k m₁ m₂ c₁ w es' next'
-      → Makes t i k m m₂ c w (λ g. es g ++ es' (next g)) (λ g. next' (next g))
-  makes-then f {k} {m₂} {w} {es'} {next'} h =
-      record { makes = λ r g o q. let s = f .makes r g o q in rw (all-append r (es g) (es' (next g)) (some o), s .1) (h .makes r (next g) (s .0) (s .2)) }
-
-  pub makes-stop : Makes t i j m m₁ c Full es next → {k : ℕ} {m₂ : Mem} (es' : State → List Event) (next' : State → State) → Makes t i k m m₂ c Full (λ g. es g ++ es' g) next'
-  makes-stop f es' next' = record { makes = λ r g o q. all-append r (es g) (es' g) (some o) ∙ rw (f .makes r g o q) (all-none r (es' g)) }
-
--- ---- a test, and the event that it may make
-
-module _ {t : Lists} {i : ℕ} {m : Mem} {c : Gathered} (v : ℕ) (test : Vec → Bool) where
-  -- it says no
-  pub makes-quiet : ((r : Rooms) (g : State) (o : Out) → HoldsAt t r m i c g o → test (g .vecs v) ≡ false) → Makes t i i m m c (Done c) (shownEvents t v test) (shownState v test)
-  unfolding shownEvents shownState appendAll
-  makes-quiet e = record { makes = λ r g o h. rw (e r g o h) (o, refl, h) }
-
-  -- it says yes
-  pub makes-shown : {m' : Mem} {w : Wrote} → Makes t i i m m' c w (shownEvents t v always) (shownState v always) → ((r : Rooms) (g : State) (o : Out) → HoldsAt t r m i c g o → test (g .vecs v) ≡ true)
-      → Makes t i i m m' c w (shownEvents t v test) (shownState v test)
-  unfolding shownEvents shownState always
-  makes-shown f e = record { makes = λ r g o h. rw (e r g o h) (f .makes r g o h) }
 
 -- ---- the acts
 
@@ -196,32 +167,8 @@ acts-bit {t} {m' = m'} {w = w} id v bit x p f number place wide =
           (ap (λ (es : List Event). appendAll r es (some o)) (bit-events t id v bit x p number place wide g)));
     }
 
--- ---- an act that makes one event and leaves the gatherer as it is
+-- ---- the answer of an append
 
 abbrev pub wroteOf : ℕ → Put → Wrote
 wroteOf n (put.Done d) = Done (record { listed = n; counts = d })
 wroteOf n put.Full = Full
-
-pub acts-one : (t : Lists) (room list events values : List ℕ) (c : Gathered) (e : Event) (a : Act) {events' values' : List ℕ} {w : Wrote} (p : Put)
-    → ((g : State) → eventsOf t ((does actsEarly (gathers t) g a) .0) ≡ e ∷ []) → ((g : State) → (does actsEarly (gathers t) g a) .1 ≡ g)
-    → Appends (e ∷ []) events values (c .counts) events' values' p → w ≡ wroteOf (c .listed) p
-    → Acts t (memOf room list events values) (memOf room list events' values') c w a
-unfolding acted after
-acts-one t room list events values c e a {events'} {values'} (put.Done d) says stays f q =
-    record {
-      follows = λ r g o h.
-          rw (q, says g, stays g)
-          (let s = f .comes r o (h .written) in (s .0, s .1, record { stands = h .stands; clean = h .clean; written = s .2 }));
-    }
-acts-one t room list events values c e a put.Full says stays f q = record { follows = λ r g o h. rw (q, says g) (f .comes r o (h .written)) }
-
-pub acts-time : (t : Lists) (room list events values : List ℕ) (c : Gathered) (u : ℕ) {events' values' : List ℕ} {w : Wrote} (p : Put) → Appends (time u ∷ []) events values (c .counts) events' values' p → w ≡ wroteOf (c .listed) p
-    → Acts t (memOf room list events values) (memOf room list events' values') c w (gather.time u)
-unfolding does eventsOf
-acts-time t room list events values c u p f q = acts-one t room list events values c (time u) (gather.time u) p (λ g. refl) (λ g. refl) f q
-
-pub acts-single : (t : Lists) (room list events values : List ℕ) (c : Gathered) (id x pos : ℕ) {events' values' : List ℕ} {w : Wrote} (p : Put) → Appends (alone (nth (t .kinds) id) (nth (t .refs) id) x ∷ []) events values (c .counts) events' values' p
-    → w ≡ wroteOf (c .listed) p → nth (t .vecs) id ≡ 0 → Acts t (memOf room list events values) (memOf room list events' values') c w (write id x pos)
-unfolding does eventsOf toward gathers
-acts-single t room list events values c id x pos p f q z =
-    acts-one t room list events values c (alone (nth (t .kinds) id) (nth (t .refs) id) x) (write id x pos) p (λ g. rw z) (λ g. rw z) f q

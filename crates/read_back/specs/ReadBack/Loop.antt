@@ -14,7 +14,7 @@ use Rattle.filling.specs.Filling.{Filling, puts-none, filling-start, filling-us
 use Rattle.filling.specs.Filling.Steps.{Step, Takes, filling-step}
 use Rattle.tables.specs.Lists.{Lists}
 use Rattle.gather.specs.Run.{Scan}
-use Rattle.section_parts.specs.Parts.{withKinds}
+use Rattle.section_parts.specs.Sections.{withKinds}
 use Rattle.section_heads.specs.Heads.{standing}
 use Rattle.section_heads.specs.declared.How.{How}
 use Rattle.section_heads.specs.declared.Phase.the-variants.{Mark}

@@ -1,6 +1,6 @@
 -- Written by tools/proof-answers from proofs.map.
 -- `readings::behind` meets its contract: each need follows from `behind-laws`. Assumes nothing.
-use Rattle.readings.specs.Steps.Code.{behind-laws}
+use Rattle.readings.specs.Step.{behind-laws}
 use borrow.Author.Needs.{needs}
 use Rattle.readings.proofs.behind.Statement.{statement}
 use Rattle.readings.proofs.behind.Tie as tie

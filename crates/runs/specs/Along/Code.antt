@@ -1,6 +1,6 @@
 -- What the functions that follow a vector's bits ask and promise, and what their proofs search.
 -- Assumes nothing.
-use mathlib.Core.Path.{_≡_, refl, sym, ap, subst, _∙_}
+use mathlib.Core.Path.{_≡_, refl, sym, _∙_}
 use Prim.Native.Nat.{ℕ, _+_, _-_, _^_, _≤_, _<_}
 use mathlib.Core.Bool.{Bool, true, false, not, cond, _&&_, true≢false}
 use mathlib.Core.List.{List}
@@ -8,28 +8,16 @@ use native.Mathlib.Omega.{arith}
 use borrow.Author.Tests.{lt-ltb, le-ltb, ltb-true, le-leb, lt-leb, leb-true, not-true, not-false}
 use lib.ListN.{length, getD}
 use lib.Dec.{ltb, leb}
-use mir.Val.{Fits}
-use mir.Syntax.{w64}
-use Rattle.slices.specs.Choice.{cond-ind}
 use Rattle.states.specs.declared.States.{States}
 use Rattle.states.specs.declared.States.the-variants.{Two, Nine}
 use Rattle.states.specs.Kind.{bits}
 use Rattle.states.specs.Letters.{mapped}
 use Rattle.states.specs.Letters.Laws.{mapped-most}
-use Rattle.tables.specs.Lists.{Lists}
-use Rattle.tables.specs.Layout.{layoutOf}
 use Rattle.vecmarks.specs.declared.VecBufferInfo.{VecBufferInfo}
-use Rattle.vecmarks.specs.Info.{isMarked, isQuiet, withBit, Inside}
-use Rattle.vecmarks.specs.Info.Keeps.{length-value, length-mark, inside-as}
-use Rattle.vecbuffer.specs.Stands.{flagsAt}
-use Rattle.gather.specs.Memory.{Mem, memOf}
-use Rattle.gather.specs.declared.Gathered.{Gathered}
-use Rattle.section_parts.specs.Sections.Loops.{OnWrites}
-use Rattle.runs.specs.Along.{isShort, bitMost, bitMap, shortOf, Taken, Took, Vector, wrote-along, quiet-along}
-use Rattle.section_parts.specs.declared.Source.the-variants.{Listed}
+use Rattle.vecmarks.specs.Info.{isMarked, withBit, Inside}
+use Rattle.runs.specs.Along.{isShort, bitMost, bitMap, shortOf, Took}
 use Rattle.runs.specs.declared.Short.{Short}
 use Rattle.runs.specs.declared.Short.the-variants as short
-use Rattle.runs.specs.declared.Reached.{Reached}
 
 -- ---- a delta and a value
 
@@ -180,105 +168,3 @@ module _ {k : States} {i : VecBufferInfo} {s : List ℕ} {left at : ℕ} {room :
         }
 
 pub ruleset take-laws = (ask-delta, ask-value, took-none, ask-down, took-stored)
-
--- ---- many
-
-pub record FollowAsks (k : States) (i : VecBufferInfo) (s : List ℕ) (max from at : ℕ) (room : List ℕ) : Type 0 where
-  pub inside : Inside room i
-  pub kind : k ≡ i .states
-  pub below : from ≤ max
-  pub few : max ≤ 65535
-  pub wide : max - from ≤ i .width
-  pub within : at ≤ length s
-
--- whatever was written before, as far as `from` and `at`, is now as far as `id` and `at'`
-pub record Came (i : VecBufferInfo) (max : ℕ) (s room : List ℕ) (from at : ℕ) (room' : List ℕ) (id at' : ℕ) : Type 0 where
-  pub came : {t : Lists} {v : ℕ} {start : ℕ} {m₀ : Mem} {c₀ : Gathered} {list events values : List ℕ} {c : Gathered} → Vector t v i max → getD (t .mins) v 0 ≤ from → isQuiet i (flagsAt (layoutOf t)) v room ≡ true
-      → OnWrites Listed t s start m₀ c₀ from at (memOf room list events values) c
-      → OnWrites Listed t s start m₀ c₀ id at' (memOf room' list events values) c × (isQuiet i (flagsAt (layoutOf t)) v room' ≡ true)
-
-pub record Followed (i : VecBufferInfo) (max : ℕ) (s room : List ℕ) (from at : ℕ) (room' : List ℕ) (r : Reached) : Type 0 where
-  pub ran : Came i max s room from at room' (r .id) (r .at)
-  pub ahead : at ≤ r .at
-
--- how far the loop has come
-pub record Following (k : States) (i : VecBufferInfo) (s : List ℕ) (max from at : ℕ) (room₀ room : List ℕ) (id j : ℕ) : Type 0 where
-  pub inside : Inside room i
-  pub long : length room ≡ length room₀
-  pub kind : k ≡ i .states
-  pub low : from ≤ id
-  pub below : id ≤ max
-  pub few : max ≤ 65535
-  pub wide : max - id ≤ i .width
-  pub ahead : at ≤ j
-  pub within : j ≤ length s
-  pub ran : Came i max s room₀ from at room id j
-
-module _ {k : States} {i : VecBufferInfo} {s : List ℕ} {max from at : ℕ} {room : List ℕ} where
-  pub follow-start : FollowAsks k i s max from at room → Following k i s max from at room room from at
-  follow-start q =
-      record {
-        inside = q .inside;
-        long = refl;
-        kind = q .kind;
-        low = omega arith;
-        below = q .below;
-        few = q .few;
-        wide = q .wide;
-        ahead = omega arith;
-        within = q .within;
-        ran = record { came = λ w a z o. (o, z) };
-      }
-
-module _ {k : States} {i : VecBufferInfo} {s : List ℕ} {max from at : ℕ} {room₀ room : List ℕ} {id j : ℕ} (f : Following k i s max from at room₀ room id j) where
-  pub follow-within : j ≤ length s
-  follow-within = f .within
-
-  pub follow-below : id ≤ max
-  follow-below = f .below
-
-  pub follow-long : length room ≡ length room₀
-  follow-long = f .long
-
-  pub followed : Followed i max s room₀ from at room (record { id = id; at = j })
-  followed = record { ran = f .ran; ahead = f .ahead }
-
-  module _ (here : 2 ≤ length s - j) where
-    pub ask-take : Takes k i s (max - id) j room
-    ask-take = record { inside = f .inside; kind = f .kind; wide = f .wide; here = omega (arith, f .within) }
-
-    module _ {room' : List ℕ} {d : ℕ} (w : Took i s (max - id) j room room' d) where
-      pub followed-none : d ≡ 0 → Followed i max s room₀ from at room' (record { id = id; at = j })
-      followed-none z = rw (w .none z) followed
-
-      module _ (z : d ≡ 0 → ⊥) where
-        taken : Taken i s (max - id) j room room' d
-        taken = w .some z
-
-        pub follow-fits : Fits w64 (id + d)
-        follow-fits = omega (arith, taken .above, f .few)
-
-        pub follow-more : Following k i s max from at room₀ room' (id + d) (j + 2)
-        follow-more =
-            let l : length room' ≡ length room = ap length (taken .stored) ∙ (length-mark _ _ _ _ ∙ length-value _ _ _ _) in
-            record {
-              inside = inside-as l (f .inside);
-              long = l ∙ f .long;
-              kind = f .kind;
-              low = omega (arith, f .low);
-              below = omega (arith, taken .above);
-              few = f .few;
-              wide = omega (arith, f .wide);
-              ahead = omega (arith, f .ahead);
-              within = omega (arith, f .within);
-              ran = record {
-                came = λ v a q o.
-                    let (p, y) = f .ran .came v a q o in
-                    (wrote-along v p (omega (arith, f .low)) (omega (arith, f .within)) y taken, quiet-along v p (omega (arith, f .low)) (omega (arith, f .within)) y taken);
-              };
-            }
-
-        pub follow-less : length s - (j + 2) < length s - j
-        follow-less = omega (arith, f .within)
-
-pub ruleset follow-laws = (follow-start, follow-within, follow-below, follow-long, followed, ask-take, followed-none, follow-fits, follow-more, follow-less)

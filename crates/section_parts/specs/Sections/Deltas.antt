@@ -1,6 +1,6 @@
 -- The next id and the next time: what their readers find, and where they end.
 -- Assumes nothing.
-use mathlib.Core.Path.{_≡_, refl, sym, subst, _∙_}
+use mathlib.Core.Path.{_≡_, refl}
 use Prim.Native.Nat.{ℕ, _+_, _-_, _^_, _≤_, _<_}
 use mathlib.Core.Bool.{cond}
 use mathlib.Core.List.{List}
@@ -17,10 +17,7 @@ use Rattle.values.specs.declared.Read.{Read}
 use Rattle.values.specs.declared.Read.the-variants.{Value, Bad}
 use Rattle.values.specs.Value.{onRead, number, unsigned, signed}
 use Rattle.values.specs.Value.Laws.{Ahead, unsigned-ahead, signed-ahead}
-use Rattle.section_parts.specs.Sections.{nextId, nextTime}
-use Rattle.section_parts.specs.Parts.{withKinds, nextOf}
-use Rattle.section_parts.specs.declared.Source.{Source}
-use Rattle.section_parts.specs.declared.Source.the-variants.{Each, Listed, One}
+use Rattle.section_parts.specs.Sections.{withKinds, nextId, nextTime}
 use Rattle.section_parts.specs.declared.NextId.{NextId}
 use Rattle.section_parts.specs.declared.NextId.the-variants as ids
 use Rattle.section_parts.specs.declared.NextTime.{NextTime}
@@ -50,31 +47,6 @@ module _ (kinds s : List ℕ) (id i : ℕ) {r : Read} (e : r ≡ unsigned s i) w
       unfolding nextId onRead signals
       id-past l = rw (← e, v, ne-eqb d 0 z, lt-leb (id + d) (length kinds) (omega arith))
 
-pub ruleset id-laws = (id-bad, id-end, id-found, id-past)
-
--- by where the values stand
-module _ (src : Source) (kinds s : List ℕ) (id i : ℕ) where
-  pub next-listed : {r : NextId} → r ≡ nextId (withKinds kinds) s id i → src ≡ Listed → r ≡ nextOf src (withKinds kinds) s id i
-  next-listed e d = rw d e
-
-  module _ (d : src ≡ Each) where
-    pub next-each : id < length kinds → ids.Id (id + 1) i ≡ nextOf src (withKinds kinds) s id i
-    unfolding signals
-    next-each h = rw (d, lt-ltb id (length kinds) h)
-
-    pub next-none : length kinds ≤ id → ids.End i ≡ nextOf src (withKinds kinds) s id i
-    unfolding signals
-    next-none h = rw (d, le-ltb id (length kinds) h)
-
-  module _ {o v : ℕ} (d : src ≡ One o v) where
-    pub next-one : id ≡ 0 → ids.Id o i ≡ nextOf src (withKinds kinds) s id i
-    next-one z = rw (d, z)
-
-    pub next-over : (id ≡ 0 → ⊥) → ids.End i ≡ nextOf src (withKinds kinds) s id i
-    next-over z = rw (d, ne-eqb id 0 z)
-
-pub ruleset of-laws = (next-listed, next-each, next-none, next-one, next-over)
-
 module _ (s : List ℕ) (u i : ℕ) {r : Read} (e : r ≡ signed s i) where
   pub time-bad : {n p : ℕ} → r ≡ Bad n p → times.Bad n p ≡ nextTime s u i
   unfolding nextTime onRead
@@ -93,8 +65,6 @@ module _ (s : List ℕ) (u i : ℕ) {r : Read} (e : r ≡ signed s i) where
       pub time-past : 0xffff_ffff_ffff_ffff - u < d → times.Bad 15 i ≡ nextTime s u i
       unfolding nextTime onRead negative
       time-past l = rw (← e, v, lt-leb (2 ^ 63) d h, le-ltb (u + d) (2 ^ 64) (omega arith))
-
-pub ruleset time-laws = (time-bad, time-end, time-found, time-past)
 
 -- ---- where they end
 
@@ -125,16 +95,6 @@ id-ahead t s id i = go (unsigned s i) (unsigned-ahead s i)
 pub id-same : (t : Lists) (s : List ℕ) (id i : ℕ) → nextId (withKinds (t .kinds)) s id i ≡ nextId t s id i
 unfolding nextId signals
 id-same t s id i = refl
-
-module _ (kinds s : List ℕ) (id i : ℕ) {r : NextId} (q : r ≡ nextId (withKinds kinds) s id i) {id′ j : ℕ} (e : r ≡ ids.Id id′ j) where
-  ahead-is : IdAhead (withKinds kinds) s i (ids.Id id′ j)
-  ahead-is = subst (IdAhead (withKinds kinds) s i) (sym q ∙ e) (id-ahead (withKinds kinds) s id i)
-
-  pub id-first : 1 ≤ id′
-  id-first = ahead-is .0
-
-  pub id-last : id′ ≤ length kinds
-  id-last = ahead-is .1
 
 -- past the end there is none
 pub id-none : (t : Lists) (s : List ℕ) (id i : ℕ) → length s ≤ i → nextId t s id i ≡ ids.Bad 7 i

@@ -12,7 +12,7 @@ use Rattle.slices.specs.Choice.{cond-ind}
 use Rattle.tables.specs.Lists.{nth}
 use Rattle.values.specs.declared.Read.{Read}
 use Rattle.values.specs.Value.{onRead, unsigned, value, signed}
-use Rattle.section_parts.specs.Parts.{withKinds}
+use Rattle.section_parts.specs.Sections.{withKinds}
 use Rattle.section_parts.specs.Sections.{nextId, nextTime}
 use Rattle.section_parts.specs.Sections.Deltas.{IdAhead, id-ahead, id-bad, id-end, id-found, id-past, time-bad, time-end, time-found, time-past}
 use Rattle.section_parts.specs.declared.NextId.{NextId}

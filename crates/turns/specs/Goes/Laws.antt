@@ -36,7 +36,7 @@ use Rattle.gather.specs.Memory.{Mem, memOf, Tabled, HoldsAt}
 use Rattle.gather.specs.Memory.Laws.{clean-updated, clean-unlisted}
 use Rattle.gather.specs.Makes.{Seen, Shown, vecInfo, eventOf, shownEvents, shownState, always}
 use Rattle.gather.specs.Makes.Laws.{events-append, events-fires, wroteOf}
-use Rattle.gather.specs.Makes.Code.{dispatch-full, dispatch-done}
+use Rattle.gather.specs.Makes.Code.{event-full, event-done}
 use Rattle.gather.specs.Writes.{ask-kinds, ask-refs}
 use Rattle.turns.specs.declared.Gathered.{Gathered}
 use Rattle.turns.specs.declared.Turned.{Turned}
@@ -199,8 +199,8 @@ module _ (x : VecInfo) (room events values : List ℕ) (k : ℕ) (n : Counts) wh
   unfolding showVector
   shown-from e =
       subst ShownIn (sym e)
-      (cond-ind (roomFor (length events) (length values) n 13 (x .info .bytes)) _ (turn.mk room events values Full) ShownIn (λ z. dispatch-done (sym z) refl refl refl refl)
-      (λ z. dispatch-full (sym z) refl))
+      (cond-ind (roomFor (length events) (length values) n 13 (x .info .bytes)) _ (turn.mk room events values Full) ShownIn (λ z. event-done (sym z) refl refl refl refl)
+      (λ z. event-full (sym z) refl))
 
 module _ {t : Lists} {r : Rooms} {v : ℕ} {a : Act} {room list events values : List ℕ} {c : Gathered} {w : Turned} {g : State} {o : Out} (f : After t r v a (memOf room list events values) c w g o) where
   -- none is due

@@ -1,15 +1,26 @@
 -- `doorquill_changes::passed::changes_part` meets its contract: what was lent to the reader is the beginning's, and what comes back is the end's. Assumes nothing.
-use Rattle.entries.specs.Begin.{from-laws, lend-bytes, lend-numbers, lent-bytes, lent-numbers, start-asks, run-ended}
+use Rattle.entries.specs.Begin.{from-laws, start-shapes, start-long, lend-bytes, lend-numbers, lent-bytes, lent-numbers, start-asks, run-ended}
 use borrow.Author.Needs.{needs}
 use Rattle.doorquill_changes.proofs.passed.changes_part.Statement.{statement}
 use Rattle.doorquill_changes.proofs.passed.changes_part.Tie as tie
 
 -- before and after `start`
 abbrev begun : tie.After-start → tie.Start
-begun s = s .before .before .before .before .before .before .before .before .before .before .before .before .before .before .before
+begun s = s .before .before .before .before .before .before .before .before .before .before .before
+
+array-copy-out-mins : tie.Need-array-copy-out-mins
+array-copy-out-mins c = search needs
+
+array-copy-out-maxs : tie.Need-array-copy-out-maxs
+array-copy-out-maxs c = search needs
+
+array-copy-out-states : tie.Need-array-copy-out-states
+array-copy-out-states c = search needs
 
 start-requires : tie.Need-start-requires
-start-requires c κs = search (from-laws, needs)
+start-requires c κs =
+    let passed = c .before .before .before .before .before .before .before .before .before .before .pre .0 in
+    (start-shapes _ _ _ _ _ _ passed, start-long _ _ _ _ _ _ passed)
 
 slice-relend-prefix-read-changes : tie.Need-slice-relend-prefix-read-changes
 slice-relend-prefix-read-changes c =
@@ -57,6 +68,9 @@ pub changes-part-spec : {M : Type 1} → statement M
 changes-part-spec =
     tie.close
     (tie.spec
+    array-copy-out-mins
+    array-copy-out-maxs
+    array-copy-out-states
     start-requires
     slice-relend-prefix-read-changes
     slice-aggregate-read-changes

@@ -4,6 +4,27 @@ use borrow.Author.Needs.{needs}
 use Rattle.doorquill_changes.proofs.passed.changes_passed.Statement.{statement}
 use Rattle.doorquill_changes.proofs.passed.changes_passed.Tie as tie
 
+array-copy-out-kinds : tie.Need-array-copy-out-kinds
+array-copy-out-kinds c = search needs
+
+array-copy-out-states : tie.Need-array-copy-out-states
+array-copy-out-states c = search needs
+
+array-copy-out-refs : tie.Need-array-copy-out-refs
+array-copy-out-refs c = search needs
+
+array-copy-out-vecs : tie.Need-array-copy-out-vecs
+array-copy-out-vecs c = search needs
+
+array-copy-out-mins : tie.Need-array-copy-out-mins
+array-copy-out-mins c = search needs
+
+array-copy-out-maxs : tie.Need-array-copy-out-maxs
+array-copy-out-maxs c = search needs
+
+array-copy-out-vec-refs : tie.Need-array-copy-out-vec-refs
+array-copy-out-vec-refs c = search needs
+
 total-bytes-requires : tie.Need-total-bytes-requires
 total-bytes-requires c κs = ask-total _ _ _ _ _ _ (c .before .before .before .before .before .before .before .before .before .before .before .before .pre)
 
@@ -32,6 +53,13 @@ pub changes-passed-spec : {M : Type 1} → statement M
 changes-passed-spec =
     tie.close
     (tie.spec
+    array-copy-out-kinds
+    array-copy-out-states
+    array-copy-out-refs
+    array-copy-out-vecs
+    array-copy-out-mins
+    array-copy-out-maxs
+    array-copy-out-vec-refs
     total-bytes-requires
     changes-part-requires
     finish-requires

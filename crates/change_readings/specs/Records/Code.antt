@@ -1,0 +1,123 @@
+-- What the proofs of the functions search: answers, and the loop over all records.
+-- Assumes nothing.
+use Prim.Native.Nat.{ℕ, _<_, _≤_}
+use mathlib.Core.Path.{_≡_, refl, sym, ap, subst, _∙_}
+use mathlib.Core.Bool.{Bool, true, false}
+use mathlib.Core.List.{List}
+use native.Mathlib.Omega.{arith}
+use Rattle.tables.specs.Lists.{Lists}
+use Rattle.records.specs.declared.Counts.{Counts}
+use Rattle.records.specs.declared.Put.{Put}
+use Rattle.records.specs.declared.Put.the-variants as put
+use Rattle.gather.specs.declared.Gathered as old
+use Rattle.gather.specs.declared.Part.the-variants as part
+use Rattle.gather.specs.Run.{Scan, run}
+use Rattle.gather.specs.Memory.{Mem, HoldsAt}
+use Rattle.gather.specs.Follows.{Asks, Runs}
+use Rattle.gather.specs.Memory.{Sized, sized-self}
+use Rattle.turns.specs.declared.Gathered.{Gathered}
+use Rattle.turns.specs.Goes.{Holding}
+use Rattle.vector_turns.specs.OneVector.{begun, nextStep}
+use Rattle.item_acts.specs.declared.Tag.the-variants as tag
+use Rattle.item_acts.specs.declared.Acted.{Acted}
+use Rattle.item_acts.specs.Moves.{Moves, moves-self, moves-then, moves-refuses, counting}
+use Rattle.changes.specs.Changes.{scanChanges}
+use Rattle.changes.specs.Changes.Items.{Left, left-all}
+use Rattle.change_readings.specs.declared.Place.{Place}
+use Rattle.change_readings.specs.declared.End.{End}
+use Rattle.change_readings.specs.declared.End.the-variants as end
+use Rattle.change_readings.specs.declared.Step.{Step}
+use Rattle.change_readings.specs.Records.{more, refused, openedBy, actedBy, between, RecordAsks, toRecord, RecordsBy, Records}
+
+-- ---- answers
+
+module _ (at : ℕ) (g : Gathered) {q : Put} where
+  pub opened-done : {n : Counts} → q ≡ put.Done n → more true at (counting g n) ≡ openedBy at g q
+  opened-done e = rw e
+
+  pub opened-full : q ≡ put.Full → refused 16 at g ≡ openedBy at g q
+  opened-full e = rw e
+
+pub ruleset opened-laws = (opened-done, opened-full)
+
+module _ (p : Place) (w : Acted) where
+  pub acted-on : w .tag ≡ tag.On → more true (w .at) (w .g) ≡ actedBy p w (w .tag)
+  acted-on e = rw e
+
+  pub acted-stay : w .tag ≡ tag.Stay → more (p .inside) (p .at) (w .g) ≡ actedBy p w (w .tag)
+  acted-stay e = rw e
+
+  pub acted-over : w .tag ≡ tag.Over → {k : old.Gathered} → k ≡ nextStep (w .g) → {h : Gathered} → h ≡ begun k → more false (w .at) h ≡ actedBy p w (w .tag)
+  acted-over e d z = rw (e, z, d)
+
+  pub acted-out : w .tag ≡ tag.Out → refused (w .number) (w .at) (w .g) ≡ actedBy p w (w .tag)
+  acted-out e = rw e
+
+pub ruleset acted-laws = (acted-on, acted-stay, acted-over, acted-out)
+
+-- ---- all records
+
+-- what is left from here is what was left from the first record on
+pub record OnRecords (t : Lists) (s : List ℕ) (m₀ : Mem) (g₀ : Gathered) (m : Mem) (c : Gathered) (inside : Bool) (i : ℕ) : Type 0 where
+  pub asks : RecordAsks t s m c inside i
+  pub sized : Sized m₀ m
+  pub moves : Moves t m₀ g₀ (Left t s false 0) m c (Left t s inside i)
+
+pub on-start : {t : Lists} (s : List ℕ) {m : Mem} {c : old.Gathered} → Asks t m c → {g : Gathered} → g ≡ begun c → OnRecords t s m g m g false 0
+on-start s q e =
+    rw e
+    (record {
+      asks =
+          record {
+            tabled = q .tabled;
+            rooms = q .rooms;
+            state = q .state;
+            output = q .output;
+            holds = q .holds;
+            within = omega arith;
+            begun = λ z. refl;
+          };
+      sized = sized-self;
+      moves = moves-self;
+    })
+
+module _ {t : Lists} {s : List ℕ} {m₀ : Mem} {g₀ : Gathered} {m : Mem} {c : Gathered} {inside : Bool} {i : ℕ} (o : OnRecords t s m₀ g₀ m c inside i) where
+  pub on-sized : Sized m₀ m
+  on-sized = o .sized
+
+  pub on-asks : RecordAsks t s m c inside i
+  on-asks = o .asks
+
+  module _ {m' : Mem} {w : Step} (f : Records t s m c inside i m' w) where
+    records-is : {e : End} → w .end ≡ e → RecordsBy t s m c inside i m' w e
+    records-is z = subst (RecordsBy t s m c inside i m' w) z (f .records)
+
+    pub on-less : w .end ≡ end.More → toRecord t s m' (w .g) (w .inside) (w .at) < toRecord t s m c inside i
+    on-less z = records-is z .less
+
+    pub on-more : w .end ≡ end.More → Sized m m' → OnRecords t s m₀ g₀ m' (w .g) (w .inside) (w .at)
+    on-more z l =
+        record {
+          asks = records-is z .asks;
+          sized = record { room = l .room ∙ o .sized .room; list = l .list ∙ o .sized .list; events = l .events ∙ o .sized .events; values = l .values ∙ o .sized .values };
+          moves = moves-then (o .moves) (records-is z .moves);
+        }
+
+    module _ {c₀ : old.Gathered} (b : g₀ ≡ begun c₀) where
+      pub on-over : w .end ≡ end.Over → {k : old.Gathered} → k ≡ between (w .g) → Runs t m₀ m' c₀ (part.Went (w .at) k) (scanChanges t s)
+      unfolding run
+      on-over z d =
+          let e = records-is z in
+          let y = moves-then (o .moves) (e .moves) .moves (scanChanges t s) (left-all t s) in
+          record {
+            runs = λ r g p h.
+                let v = y .2 .leads r g p (subst (λ (x : Gathered). Holding t r m₀ x g p) (sym b) h) in
+                (v .0, v .1, v .3 ∙ ap (λ (sc : Scan). run t r sc (v .0) (v .1)) (y .1), rw d (subst (λ (n : ℕ). HoldsAt t r m' n (between (w .g)) (v .0) (v .1)) (e .begun) (v .2)));
+          }
+
+      pub on-out : w .end ≡ end.Out → Runs t m₀ m' c₀ (part.Out (w .number) (w .at)) (scanChanges t s)
+      on-out z =
+          let y = moves-refuses (o .moves) (records-is z) .refuses (scanChanges t s) (left-all t s) in
+          record { runs = λ r g p h. y .quits r g p (subst (λ (x : Gathered). Holding t r m₀ x g p) (sym b) h) }
+
+pub ruleset records-laws = (on-start, on-sized, on-asks, on-less, on-more, on-over, on-out)

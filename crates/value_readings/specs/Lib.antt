@@ -1,0 +1,4 @@
+-- The definitions that the promise of `value_readings` cites.
+-- Assumes nothing.
+pub mod Scanner
+pub mod Values
