@@ -15,60 +15,69 @@ use Rattle.written.specs.declared.Written.the-variants.{Done, Refused}
 pub mod Steps
 pub mod Fuel
 
--- Bytes stand at the front of the room that was lent, and `n` of them. `Left` says of bytes: behind them, what the
--- definition says from here is what it says from the start.
-pub record Filling (Left : List ℕ → Type 0) (room : List ℕ) (n : ℕ) (out : List ℕ) : Type 0 where
-  pub held : List ℕ
+-- What has been written stands at the front of the room that was lent, in `n` bytes. `Left` says of it: behind it, what
+-- the definition says from here is what it says from the start.
+pub record FillingBy {H : Type 0} (bytes : H → List ℕ) (Left : H → Type 0) (room : List ℕ) (n : ℕ) (out : List ℕ)
+    : Type 0 where
+  pub held : H
   pub left : Left held
-  pub put : Puts room 0 held out (Next n)
+  pub put : Puts room 0 (bytes held) out (Next n)
   pub long : length out ≡ length room
+
+-- .. where what has been written is bytes and no more
+abbrev pub Filling : (Left : List ℕ → Type 0) (room : List ℕ) (n : ℕ) (out : List ℕ) → Type 0
+Filling Left room n out = FillingBy (λ bs. bs) Left room n out
 
 -- no bytes put
 pub puts-none : (out : List ℕ) (at : ℕ) → at ≤ length out → Puts out at [] out (Next at)
 puts-none out at h = record { lies = (splice-nil out at, sym (add-zero at), h) }
 
-pub filling-start : {Left : List ℕ → Type 0} (room : List ℕ) → Left [] → Filling Left room 0 room
-filling-start room l = record { held = []; left = l; put = puts-none room 0 (omega arith); long = refl }
+module _ {H : Type 0} {bytes : H → List ℕ} {Left : H → Type 0} where
+  pub filling-start : (room : List ℕ) (h : H) → bytes h ≡ [] → Left h → FillingBy bytes Left room 0 room
+  filling-start room h e l = record { held = h; left = l; put = rw e (puts-none room 0 (omega arith)); long = refl }
 
-module _ {Left : List ℕ → Type 0} {room : List ℕ} {n : ℕ} {out : List ℕ} (o : Filling Left room n out) where
-  pub filling-count : n ≡ length (o .held)
-  filling-count = omega (arith, o .put .lies .1)
+  module _ {room : List ℕ} {n : ℕ} {out : List ℕ} (o : FillingBy bytes Left room n out) where
+    pub filling-count : n ≡ length (bytes (o .held))
+    filling-count = omega (arith, o .put .lies .1)
 
-  pub filling-used : n ≤ length out
-  filling-used = omega (arith, o .long, o .put .lies .2)
+    pub filling-used : n ≤ length out
+    filling-used = omega (arith, o .long, o .put .lies .2)
 
-  pub filling-inside : length (o .held) ≤ length room
-  filling-inside = omega (arith, filling-count, o .put .lies .2)
+    pub filling-inside : length (bytes (o .held)) ≤ length room
+    filling-inside = omega (arith, filling-count, o .put .lies .2)
 
-  -- some bytes more
-  module _ {bs out' : List ℕ} {f : Field} (q : Puts out n bs out' f) where
-    behind : Puts room 0 (o .held ++ bs) out' f
-    behind = puts-more (o .put) refl bs q
+    -- nothing more
+    pub filling-stay : {Left' : H → Type 0} → Left' (o .held) → FillingBy bytes Left' room n out
+    filling-stay l = record { held = o .held; left = l; put = o .put; long = o .long }
 
-    module _ {c : ℕ} (e : f ≡ Next c) where
-      fitted : Lies room 0 (o .held ++ bs) out' (Next c)
-      fitted = subst (Lies room 0 (o .held ++ bs) out') e (behind .lies)
+    -- some bytes more
+    module _ {bs out' : List ℕ} {f : Field} (q : Puts out n bs out' f) where
+      pub filling-behind : Puts room 0 (bytes (o .held) ++ bs) out' f
+      filling-behind = puts-more (o .put) refl bs q
 
-      pub filling-fits : length (o .held) + length bs ≤ length room
-      filling-fits = omega (arith, fitted .1, fitted .2, length-append (o .held) bs)
+      module _ {c : ℕ} (e : f ≡ Next c) where
+        fitted : Lies room 0 (bytes (o .held) ++ bs) out' (Next c)
+        fitted = subst (Lies room 0 (bytes (o .held) ++ bs) out') e (filling-behind .lies)
 
-      pub filling-turn : {Left' : List ℕ → Type 0} → Left' (o .held ++ bs) → Filling Left' room c out'
-      filling-turn l =
-          record {
-            held = o .held ++ bs;
-            left = l;
-            put = record { lies = fitted };
-            long = ap length (fitted .0) ∙ length-splice room 0 (o .held ++ bs) (omega (arith, fitted .1, fitted .2));
-          }
+        pub filling-fits : length (bytes (o .held)) + length bs ≤ length room
+        filling-fits = omega (arith, fitted .1, fitted .2, length-append (bytes (o .held)) bs)
 
-      pub filling-done : (read steps : ℕ) → Fills (wrote read (o .held ++ bs) steps) room out' (Done read c steps)
-      filling-done read steps = record { says = (o .held ++ bs, refl, fitted .0, omega (arith, fitted .1), fitted .2) }
+        pub filling-turn : (h : H) → bytes h ≡ bytes (o .held) ++ bs → {Left' : H → Type 0} → Left' h
+            → FillingBy bytes Left' room c out'
+        filling-turn h w l =
+            let long = length-splice room 0 (bytes (o .held) ++ bs) (omega (arith, fitted .1, fitted .2)) in
+            record { held = h; left = l; put = rw w (record { lies = fitted }); long = ap length (fitted .0) ∙ long }
 
-    -- .. that do not fit
-    pub filling-full : f ≡ Short → length room < length (o .held) + length bs
-    filling-full e =
-        let l = subst (Lies room 0 (o .held ++ bs) out') e (behind .lies) in
-        omega (arith, l, length-append (o .held) bs)
+        pub filling-done : (read steps : ℕ)
+            → Fills (wrote read (bytes (o .held) ++ bs) steps) room out' (Done read c steps)
+        filling-done read steps =
+            record { says = (bytes (o .held) ++ bs, refl, fitted .0, omega (arith, fitted .1), fitted .2) }
+
+      -- .. that do not fit
+      pub filling-full : f ≡ Short → length room < length (bytes (o .held)) + length bs
+      filling-full e =
+          let l = subst (Lies room 0 (bytes (o .held) ++ bs) out') e (filling-behind .lies) in
+          omega (arith, l, length-append (bytes (o .held)) bs)
 
 pub filling-bad : (room out : List ℕ) (number place : ℕ) → Fills (refused number place) room out (Refused number place)
 filling-bad room out number place = record { says = refl }

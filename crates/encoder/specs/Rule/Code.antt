@@ -252,7 +252,7 @@ pub on-start : (s : List ℕ) (values : ℕ) (kept : List ℕ)
     → On s values kept
     (record { clock = record { begun = false; last = 0; skipping = false }; read = 0; kept = 0; steps = 0 }) kept
 unfolding timeRule
-on-start s values kept = record { filling = filling-start kept (reading-start (omega arith)) }
+on-start s values kept = record { filling = filling-start kept [] refl (reading-start (omega arith)) }
 
 module _ (s : List ℕ) (values : ℕ) (kept₀ kept : List ℕ) (e : Ended) where
   applies : (a : Written) → timeRule s values (length kept₀) ≡ ruledOf e → Fills e kept₀ kept a

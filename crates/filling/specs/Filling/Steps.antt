@@ -63,7 +63,9 @@ module _ {X A T : Type 0} {of : Ended → A} {whole : A} {Left : X → ℕ → L
   filling-step (goes bs y j) t r (f, q, e) = subst C (sym e) (by f q)
     where
       by : (f : Field) → Puts out n bs out' f → C (landed (more y j) (over (Refused 16 j)) f)
-      by (Next c) q = let l = t .0 (filling-fits o q refl) in go y j c (filling-turn o q refl (l .0)) (l .1)
+      by (Next c) q =
+          let l = t .0 (filling-fits o q refl) in
+          go y j c (filling-turn o q refl (o .held ++ bs) refl (l .0)) (l .1)
       by Short q = end _ _ (t .1 (filling-full o q refl)) (filling-bad room out' 16 j)
   filling-step (ends bs j k) t r (f, q, e) = subst C (sym e) (by f q)
     where

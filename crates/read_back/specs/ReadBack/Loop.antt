@@ -165,7 +165,7 @@ unfolding readBack
 on-start kinds how s out x e =
     let r : Rest kinds how s out (x, 0) 0 [] =
     rw e (record { rest = _; here = left-all (withKinds kinds) how s; left = refl; few = omega arith }) in
-    record { filling = filling-start out r }
+    record { filling = filling-start out [] refl r }
 
 module _ {kinds : List ℕ} {how : How} {s out₀ : List ℕ} {p : Progress} {out : List ℕ}
     (o : On kinds how s out₀ p out) where

@@ -24,7 +24,8 @@ use Rattle.sections_writer.specs.declared.Turn.{Turn}
 use Rattle.sections_writer.specs.declared.Turn.the-variants.{More, Over}
 use Rattle.written.specs.declared.Written.{Written}
 use Rattle.written.specs.declared.Written.the-variants.{Refused}
-use Rattle.sections_writer.specs.Writer.{begin, Given, goes, ends, stops, timeGood, stepped, closing, givenTime, givenWrite, given, one, writing, writeSections}
+use Rattle.sections_writer.specs.Writer.{begin, timeGood, stepped, closing, one, writing, writeSections}
+use Rattle.sections_writer.specs.Writer.{Given, goes, ends, stops, givenTime, givenWrite, given}
 use Rattle.sections_writer.specs.Writer.Turn.{EndsIn, IdOf, stepOf, going, Does}
 
 -- ---- one record
@@ -136,7 +137,7 @@ Comes t flag s out₀ p out (Over a) = Fills (writeSections t flag s (length out
 pub on-start : (t : Lists) (flag : Bool) (s out : List ℕ)
     → On t flag s out (record { pen = begin; read = 0; count = 0 }) out
 unfolding writeSections
-on-start t flag s out = record { filling = filling-start out (reading-start (omega arith)) }
+on-start t flag s out = record { filling = filling-start out [] refl (reading-start (omega arith)) }
 
 module _ {t : Lists} {flag : Bool} {s out₀ : List ℕ} {p : Progress} {out : List ℕ} (o : On t flag s out₀ p out) where
   pub on-asks : (p .pen .steps ≤ p .read) × (p .count ≤ length out)
