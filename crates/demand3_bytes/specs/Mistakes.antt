@@ -118,17 +118,21 @@ event label start = record { label = label; bytes = recordBytes (Value Two 5 sta
 abbrev one : Tables
 one = record { vector = λ i. 1; min = λ v. 2; max = λ v. 3 }
 
--- bit 0 of a vector of two bits is written once: a write whose event is missing
+-- the bit that id 3 is
+abbrev bit : ℕ
+bit = bitOf one 0 3
+
+-- one bit of a vector of two is written once: a write whose event is missing
 pub lost : (early : ℕ → Bool) (values : List ℕ)
     → Demand3 early one (time 0 ∷ write 3 1 0 ∷ stepEnd ∷ []) values (clock ∷ []) → ⊥
 unfolding Elsewhere writesBit
 lost early values d =
-    ⊎-elim (λ c. let z : _≡_ {A = ℕ} 0 1 = c .0 in omega arith) (shown-none 0 0 1 values)
-    (shown-further 0 0 1 values clock [] (is-shown early one (time 0 ∷ []) 3 1 0 0 (stepEnd ∷ []) refl (refl, tt) values
-    (clock ∷ []) d))
+    ⊎-elim (λ c. let z : _≡_ {A = ℕ} 0 1 = c .0 in omega arith) (shown-none 0 bit 1 values)
+    (shown-further 0 bit 1 values clock []
+    (is-shown early one (time 0 ∷ []) 3 1 0 0 (stepEnd ∷ []) refl (refl, tt) values (clock ∷ []) d))
 
 -- .. and an event that shows 0 where 1 was written
-stale-shows : shows (0 ∷ []) (event 1 0) 0 ≡ 0
+stale-shows : shows (0 ∷ []) (event 1 0) bit ≡ 0
 unfolding shows bitIn recordAt recordBytes bigBytes big part fieldAt fieldGet valuePlace
 stale-shows = refl
 
@@ -137,9 +141,9 @@ pub stale : (early : ℕ → Bool)
 unfolding Elsewhere writesBit
 stale early d =
     ⊎-elim (λ c. let z : _≡_ {A = ℕ} 0 1 = c .0 in omega arith)
-    (λ o. ⊎-elim (λ c. let z : _≡_ {A = ℕ} 0 1 = sym stale-shows ∙ c .1 in omega arith) (shown-none 0 0 1 (0 ∷ []))
-    (shown-further 0 0 1 (0 ∷ []) (event 1 0) [] o))
-    (shown-further 0 0 1 (0 ∷ []) clock (event 1 0 ∷ [])
+    (λ o. ⊎-elim (λ c. let z : _≡_ {A = ℕ} 0 1 = sym stale-shows ∙ c .1 in omega arith) (shown-none 0 bit 1 (0 ∷ []))
+    (shown-further 0 bit 1 (0 ∷ []) (event 1 0) [] o))
+    (shown-further 0 bit 1 (0 ∷ []) clock (event 1 0 ∷ [])
     (is-shown early one (time 0 ∷ []) 3 1 0 0 (stepEnd ∷ []) refl (refl, tt) (0 ∷ []) (clock ∷ event 1 0 ∷ []) d))
 
 -- two vectors of one bit that share a reference, 1 written to the first and 0 to the second: labels the wrong way round

@@ -89,6 +89,9 @@ module _ (t : Lists) (input : ℕ) (l : Lent) (sc : Scan) (x : Left) (d1 : Deman
   unfolding made
   on-bytes = record {
     records = (labelledFrom 0 (eventsOf t all), has-records (eventsIn x) (eventsOf t all) written);
+    one-way = λ rs qs r q.
+        records-are (eventsIn x) (eventsOf t all) written rs r
+        ∙ sym (records-are (eventsIn x) (eventsOf t all) written qs q);
     history =
         λ rs r v. rw (records-are (eventsIn x) (eventsOf t all) written rs r)
         (tells actsEarly t tables-good (acts sc) d3 small (valuesIn x) [] held few v);

@@ -58,6 +58,7 @@ labelsOf (e ∷ es) = labelOf e ∷ labelsOf es
 pub record RecordsOf (output : List ℕ) (es : List Event) (rs : List Labelled) : Type 0 where
   pub whole : Whole rs
   pub bytes : joined rs ≡ output
+  -- a record of kinds 1 to 4 does not say its label: only this asks the gathering rules for it
   pub labelled : labels rs ≡ labelsOf es
 
 -- ---- the bits that a record shows
@@ -262,8 +263,9 @@ valuesIn x = take (x .answer .values) (x .values)
 
 -- `acts` is what the input says, `es` are the events that the gathering rules make of it, x is what the call leaves
 pub record OnBytes (t : Lists) (acts : List Act) (es : List Event) (x : Left) : Type 0 where
-  -- the event bytes are records
+  -- the event bytes are records, and in one way only
   pub records : (rs : List Labelled) × RecordsOf (eventsIn x) es rs
+  pub one-way : (rs qs : List Labelled) → RecordsOf (eventsIn x) es rs → RecordsOf (eventsIn x) es qs → rs ≡ qs
   -- (a) and (b): the times, and the events labelled with a vector, are those of its history
   pub history : (rs : List Labelled) → RecordsOf (eventsIn x) es rs → (v : ℕ)
       → Tells t v (width (gathers t) v) (valuesIn x) (historyOf actsEarly (gathers t) acts v) (partOf v rs)
