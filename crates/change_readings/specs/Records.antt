@@ -10,14 +10,12 @@ use Rattle.rules.specs.Gather.{State}
 use Rattle.records.specs.declared.Put.{Put}
 use Rattle.records.specs.declared.Put.the-variants as put
 use Rattle.records.specs.Out.{Rooms, Out}
-use Rattle.gather.specs.declared.Gathered as old
 use Rattle.gather.specs.Run.{Scan, done}
-use Rattle.gather.specs.Memory.{Mem, Tabled}
+use Rattle.gather.specs.Memory.{Holds, Mem, Tabled}
 use Rattle.section_heads.specs.declared.Said.{Said}
 use Rattle.section_heads.specs.declared.Said.the-variants.{Nothing, Time, Write, StepEnd, Over, Bad}
-use Rattle.turns.specs.declared.Gathered.{Gathered}
-use Rattle.turns.specs.Goes.{Holding}
-use Rattle.vector_turns.specs.OneVector.{begun, nextStep}
+use Rattle.gather.specs.declared.Gathered.{Gathered}
+use Rattle.vector_turns.specs.OneVector.{nextStep}
 use Rattle.item_acts.specs.declared.Tag.{Tag}
 use Rattle.item_acts.specs.declared.Tag.the-variants as tag
 use Rattle.item_acts.specs.declared.Acted.{Acted}
@@ -49,11 +47,8 @@ openedBy at g put.Full = refused 16 at g
 abbrev pub actedBy : Place → Acted → Tag → Step
 actedBy p w tag.On = more true (w .at) (w .g)
 actedBy p w tag.Stay = more (p .inside) (p .at) (w .g)
-actedBy p w tag.Over = more false (w .at) (begun (nextStep (w .g)))
+actedBy p w tag.Over = more false (w .at) (nextStep (w .g))
 actedBy p w tag.Out = refused (w .number) (w .at) (w .g)
-
-abbrev pub between : Gathered → old.Gathered
-between g = record { listed = g .listed; counts = g .counts }
 
 -- ---- one turn
 
@@ -73,7 +68,7 @@ pub record RecordAsks (t : Lists) (s : List ℕ) (m : Mem) (c : Gathered) (insid
   pub rooms : Rooms
   pub state : State
   pub output : Out
-  pub holds : Holding t rooms m c state output
+  pub holds : Holds t rooms m c state output
   pub within : i ≤ length s
   pub begun : isEnd (saidAt t s inside i) ≡ false → c .ended ≡ 0
 
@@ -89,14 +84,9 @@ pub record Goes (t : Lists) (s : List ℕ) (m : Mem) (c : Gathered) (inside : Bo
 abbrev pub DoneAt : ℕ → Scan → Type 0
 DoneAt p sc = sc ≡ done p
 
--- "Input ends only between steps"
-pub record Ends (t : Lists) (s : List ℕ) (m : Mem) (c : Gathered) (inside : Bool) (i : ℕ) (m' : Mem) (c' : Gathered) (p : ℕ) : Type 0 where
-  pub begun : c' .ended ≡ 0
-  pub moves : Moves t m c (Left t s inside i) m' c' (DoneAt p)
-
 abbrev pub RecordsBy : Lists → List ℕ → Mem → Gathered → Bool → ℕ → Mem → Step → End → Type 0
 RecordsBy t s m c inside i m' w end.More = Goes t s m c inside i m' (w .g) (w .inside) (w .at)
-RecordsBy t s m c inside i m' w end.Over = Ends t s m c inside i m' (w .g) (w .at)
+RecordsBy t s m c inside i m' w end.Over = Moves t m c (Left t s inside i) m' (w .g) (DoneAt (w .at))
 RecordsBy t s m c inside i m' w end.Out = Refuses t m c (Left t s inside i) (w .number) (w .at)
 
 pub record Records (t : Lists) (s : List ℕ) (m : Mem) (c : Gathered) (inside : Bool) (i : ℕ) (m' : Mem) (w : Step) : Type 0 where

@@ -11,13 +11,12 @@ use item_turns::Numbers;
 use records::Put;
 use records::time_change;
 use section_heads::Said;
-use vector_turns::begun;
 use vector_turns::next_step;
 ghost use mathlib.Core.Path.{_≡_};
 ghost use Rattle.gather.specs.Follows.{Asks, Runs};
 ghost use Rattle.changes.specs.Changes.{scanChanges};
 ghost use Rattle.item_turns.specs.Lent.{tables, lent, before, after};
-ghost use Rattle.change_readings.specs.Records.{openedBy, actedBy, between, RecordAsks, Records};
+ghost use Rattle.change_readings.specs.Records.{openedBy, actedBy, RecordAsks, Records};
 
 // Where a reading stands: inside a step or between steps, and at which byte.
 struct Place {
@@ -40,11 +39,11 @@ struct Step {
     inside: bool,
     at: usize,
     number: u64,
-    g: turns::Gathered,
+    g: Gathered,
 }
 
 // After a time, whose record ends at `at`.
-fn opened(at: usize, g: turns::Gathered, put: Put) -> Step
+fn opened(at: usize, g: Gathered, put: Put) -> Step
     ensures { λ r. ⌜ r ≡ openedBy at g put ⌝ }
 {
     match put {
@@ -53,7 +52,7 @@ fn opened(at: usize, g: turns::Gathered, put: Put) -> Step
             inside: true,
             at,
             number: 0,
-            g: turns::Gathered {
+            g: Gathered {
                 ended: g.ended,
                 listed: g.listed,
                 counts,
@@ -95,7 +94,7 @@ fn acted(p: Place, w: Acted) -> Step
             inside: false,
             at: w.at,
             number: 0,
-            g: begun(next_step(g)),
+            g: next_step(g),
         },
         Tag::Out => Step {
             end: End::Out,
@@ -116,7 +115,7 @@ fn one_record<'a>(
     list: &mut [u32],
     events: &mut [u8],
     values: &mut [u8],
-    g: turns::Gathered,
+    g: Gathered,
     p: Place,
 ) -> Step
     requires { ⌜ RecordAsks (tables b n) (now s) (lent room list events values) g (p .inside) (p .at) ⌝ }
@@ -140,17 +139,6 @@ fn one_record<'a>(
     }
 }
 
-// Between steps the step's end has come to none.
-fn between(g: turns::Gathered) -> Gathered
-    ensures { λ r. ⌜ r ≡ between g ⌝ }
-{
-    let counts = g.counts;
-    Gathered {
-        listed: g.listed,
-        counts,
-    }
-}
-
 // All records: what they do, and how the input ended.
 pub fn read_changes<'a>(
     b: Bytes<'a>,
@@ -169,7 +157,7 @@ pub fn read_changes<'a>(
 {
     let mut inside = false;
     let mut at: usize = 0;
-    let mut g = begun(c);
+    let mut g = c;
     loop {
         let w = one_record(b, n, s, room, list, events, values, g, Place { inside, at });
         let end = w.end;
@@ -180,7 +168,8 @@ pub fn read_changes<'a>(
                 g = w.g;
             }
             End::Over => {
-                return Part::Went(w.at, between(w.g));
+                let last = w.g;
+                return Part::Went(w.at, last);
             }
             End::Out => {
                 return Part::Out(w.number, w.at);

@@ -49,6 +49,7 @@ fn sections_part<'a>(
     let states = b[STATES];
     start(mins, maxs, states, room, list);
     let c = Gathered {
+        ended: 0,
         listed: 0,
         counts: Counts {
             events: 0,

@@ -163,7 +163,7 @@ module _ (t : Lists) (input : ℕ) (events values : List ℕ) (n k : ℕ) (e : c
         (begins t input events values (totalBytes (layoutOf t)) (length (t .mins)) (checks-least t input (length events) (length values) n k e))
 
     pub start-asks : Asks t lent nothing
-    start-asks = record { tabled = tabled t input (length events) (length values) n k e; rooms = roomsOf events values; state = begin (gathers t); output = empty; holds = holds }
+    start-asks = record { tabled = tabled t input (length events) (length values) n k e; rooms = roomsOf events values; state = begin (gathers t); output = empty; holds = holds; begun = refl }
 
     -- ---- the end
 

@@ -46,7 +46,7 @@ gathers-good k i v e = in-range (k .sized) (k .signals) i v e
 
 -- nothing is listed, and nothing is written
 abbrev pub nothing : Gathered
-nothing = record { listed = 0; counts = record { events = 0; values = 0; steps = 0 } }
+nothing = record { ended = 0; listed = 0; counts = record { events = 0; values = 0; steps = 0 } }
 
 abbrev pub roomsOf : (events values : List ℕ) → Rooms
 roomsOf events values = record { events = length events; values = length values }

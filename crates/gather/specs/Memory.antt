@@ -10,7 +10,7 @@ use Rattle.tables.specs.Good as good
 use Rattle.tables.specs.Good.{Ranged, Signals, Named}
 use Rattle.rules.specs.Gather.{State}
 use Rattle.records.specs.Out.{Rooms, Out}
-use Rattle.records.specs.Out.Laws.{EventsRoom, ValuesRoom, Written}
+use Rattle.records.specs.Out.Laws.{Written}
 use Rattle.vecbuffer.specs.Stands.{Stands}
 use Rattle.gather.specs.declared.Gathered.{Gathered}
 pub mod Laws
@@ -48,16 +48,11 @@ pub record Clean (t : Layout) (room nums : List ℕ) : Type 0 where
   pub room-past : (i : ℕ) → totalBytes t ≤ i → getD room i 0 ≡ 0
   pub list-past : (i : ℕ) → t .count ≤ i → getD nums i 0 ≡ 0
 
--- outside a step's end i is 0; there the first i of the vectors that were listed are done
+-- the step's end has come to the first i of the vectors listed
 pub record HoldsAt (t : Lists) (r : Rooms) (m : Mem) (i : ℕ) (c : Gathered) (g : State) (o : Out) : Type 0 where
   pub stands : Stands (layoutOf t) (m .room) (m .list) i (c .listed) g
   pub clean : Clean (layoutOf t) (m .room) (m .list)
   pub written : Written r (m .events) (m .values) (c .counts) o
 
 abbrev pub Holds : Lists → Rooms → Mem → Gathered → State → Out → Type 0
-Holds t r m c g o = HoldsAt t r m 0 c g o
-
--- what is used of the rooms lies within them
-pub record Roomy (events values : List ℕ) (c : Gathered) : Type 0 where
-  pub in-events : EventsRoom events (c .counts)
-  pub in-values : ValuesRoom values (c .counts)
+Holds t r m c g o = HoldsAt t r m (c .ended) c g o

@@ -105,9 +105,6 @@ module _ {t : Lists} (k : Tabled t) {id x : ℕ} (some : 1 ≤ id) (most : id �
   pub ask-refs : id - 1 < length (t .refs)
   ask-refs = rw (k .sized .refs-long) in-kinds
 
-  pub ask-vecs : id - 1 < length (t .vecs)
-  ask-vecs = rw (k .sized .vecs-long) in-kinds
-
   suits-at : Suits (getD (t .kinds) i 0) x
   suits-at = rw (nth-less (t .kinds) id some) at suits
 

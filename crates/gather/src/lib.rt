@@ -6,8 +6,9 @@ use vecstarts::info_of;
 ghost use mathlib.Core.Path.{_≡_};
 ghost use Rattle.gather.specs.Writes.{vecInfoFrom, Looks};
 
-// How many vectors are listed in the open step, and how much of the two rooms is used.
+// Which vectors are listed in the open step, from the number `ended` to `listed` of the list, and how much of the two rooms is used.
 pub struct Gathered {
+    pub ended: usize,
     pub listed: usize,
     pub counts: Counts,
 }

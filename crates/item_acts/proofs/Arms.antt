@@ -7,7 +7,7 @@ use denote.Enum.Declared.{tagOf}
 use Rattle.section_heads.proofs.Said.{the-type}
 use Rattle.section_heads.specs.declared.Said.{Said}
 use Rattle.section_heads.specs.declared.Said.the-variants.{Nothing, Time, Write, StepEnd, Over, Bad}
-use Rattle.turns.specs.declared.Gathered.{Gathered}
+use Rattle.gather.specs.declared.Gathered.{Gathered}
 use Rattle.item_acts.specs.declared.Stage.the-variants as stage
 use Rattle.item_acts.specs.Acts.{stageOf}
 use Rattle.item_acts.specs.Acts.Code as code

@@ -2,21 +2,20 @@
 -- Assumes nothing.
 use Prim.Native.Nat.{ℕ, _+_, _*_}
 use mathlib.Core.Path.{_≡_}
-use mathlib.Core.Bool.{Bool, true, cond}
+use mathlib.Core.Bool.{true, cond}
 use mathlib.Core.List.{List}
 use lib.Dec.{eqb}
 use Rattle.tables.specs.Lists.{Lists}
 use Rattle.rules.specs.Gather.{State, stepEnd}
 use Rattle.records.specs.Out.{Rooms, Out}
 use Rattle.gather.specs.Run.{Scan, say, fault}
-use Rattle.gather.specs.Memory.{Mem, Tabled}
+use Rattle.gather.specs.Memory.{Holds, Mem, Tabled}
 use Rattle.section_heads.specs.declared.Stand.{Stand}
 use Rattle.section_heads.specs.declared.Said.{Said}
 use Rattle.section_heads.specs.declared.Said.the-variants.{Nothing, Time, Write, StepEnd, Over, Bad}
 use Rattle.section_heads.specs.declared.Item.{Item}
-use Rattle.turns.specs.declared.Gathered.{Gathered}
-use Rattle.turns.specs.Goes.{Holding}
-use Rattle.vector_turns.specs.OneVector.{isAct, actOf, begun, nextStep}
+use Rattle.gather.specs.declared.Gathered.{Gathered}
+use Rattle.vector_turns.specs.OneVector.{isAct, actOf, nextStep}
 use Rattle.vector_turns.specs.OneVector.Laws.{ReadyBy, waits, toTurn}
 use Rattle.item_turns.specs.declared.Ended.{Ended}
 use Rattle.item_turns.specs.declared.Ended.the-variants.{On, Stay, Full}
@@ -76,7 +75,7 @@ pub record ActAsks (t : Lists) (m : Mem) (c : Gathered) (x : Item) : Type 0 wher
   pub rooms : Rooms
   pub state : State
   pub output : Out
-  pub holds : Holding t rooms m c state output
+  pub holds : Holds t rooms m c state output
   pub act : ActBy t c (x .then) (x .said)
 
 -- ---- what it leaves
@@ -90,7 +89,7 @@ pub record Stays (t : Lists) (m : Mem) (c : Gathered) (x : Item) (m' : Mem) (c' 
 pub record Closes (t : Lists) (m : Mem) (c : Gathered) (x : Item) (m' : Mem) (c' : Gathered) (p : ℕ) : Type 0 where
   pub ends : x .said ≡ StepEnd
   pub place : p ≡ x .at
-  pub leads : (p : ℕ) (rest : Scan) → Leads t m c (say stepEnd p rest) m' (begun (nextStep c')) rest
+  pub leads : (p : ℕ) (rest : Scan) → Leads t m c (say stepEnd p rest) m' (nextStep c') rest
 
 -- an event does not fit, or the input is refused
 pub data Refusal (t : Lists) (m : Mem) (c : Gathered) (x : Item) : (n p : ℕ) → Type 0 where

@@ -2,7 +2,7 @@
 -- what is then left at the second.
 -- Assumes nothing.
 use Prim.Native.Nat.{ℕ}
-use mathlib.Core.Path.{_≡_, refl, sym, ap, subst, _∙_}
+use mathlib.Core.Path.{_≡_, sym, subst}
 use mathlib.Core.List.{List, [], _∷_}
 use Rattle.tables.specs.Lists.{Lists}
 use Rattle.rules.specs.Gather.{Act, time, does}
@@ -13,7 +13,7 @@ use Rattle.records.specs.declared.Put.the-variants as put
 use Rattle.records.specs.Out.Laws.{Appends}
 use Rattle.gather.specs.Run.{Scan, say, fitted, eventsOf, acted, after, run}
 use Rattle.gather.specs.Memory.{Mem, memOf}
-use Rattle.turns.specs.declared.Gathered.{Gathered}
+use Rattle.gather.specs.declared.Gathered.{Gathered}
 use Rattle.item_turns.specs.Leads.{Leads, leads-self, leads-then, leads-quits, Quits}
 
 -- an act is said, and then what is left

@@ -1,4 +1,5 @@
 // What is done with an item among the values of a step: a turn; nothing more, where the step's end has come to each vector; or it is refused.
+use gather::Gathered;
 use item_turns::Bytes;
 use item_turns::Ended;
 use item_turns::Numbers;
@@ -6,7 +7,6 @@ use item_turns::Went;
 use item_turns::turn_item;
 use section_heads::Item;
 use section_heads::Said;
-use turns::Gathered;
 use vector_turns::all_ended;
 ghost use mathlib.Core.Path.{_≡_};
 ghost use Rattle.item_turns.specs.Lent.{tables, lent, before, after};

@@ -1,7 +1,7 @@
 -- The last arms of matches on what is said, which name no variant: what they leave.
 -- Assumes nothing.
 use Prim.Native.Nat.{ℕ}
-use mathlib.Core.Path.{_≡_, sym}
+use mathlib.Core.Path.{_≡_}
 use mathlib.Core.Bool.{true, false≢true}
 use mathlib.Core.List.{List, [], _∷_}
 use types.Run.{OneOf, miss}
@@ -11,7 +11,7 @@ use Rattle.section_heads.specs.declared.Said.{Said}
 use Rattle.section_heads.specs.declared.Said.the-variants.{Nothing, Time, Write, StepEnd, Over, Bad}
 use Rattle.section_heads.specs.declared.Item.{Item}
 use Rattle.tables.specs.Lists.{Lists}
-use Rattle.turns.specs.declared.Gathered.{Gathered}
+use Rattle.gather.specs.declared.Gathered.{Gathered}
 use Rattle.vector_turns.specs.OneVector.{isWrite}
 use Rattle.item_turns.specs.declared.Went.{Went}
 use Rattle.item_turns.specs.Turn.{PlainAsks, PlainTurns}

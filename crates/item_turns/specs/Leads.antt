@@ -7,17 +7,17 @@ use Rattle.tables.specs.Lists.{Lists}
 use Rattle.rules.specs.Gather.{Act, State}
 use Rattle.records.specs.Out.{Rooms, Out}
 use Rattle.gather.specs.Run.{Scan, say, out, run}
-use Rattle.gather.specs.Memory.{Mem}
-use Rattle.turns.specs.declared.Gathered.{Gathered}
-use Rattle.turns.specs.Goes.{Holding, leftOf, Goes, Stops}
+use Rattle.gather.specs.Memory.{Holds, Mem}
+use Rattle.gather.specs.declared.Gathered.{Gathered}
+use Rattle.turns.specs.Goes.{leftOf, Goes, Stops}
 
 -- for every state that the memory holds, it holds one afterwards from which the second scan runs as the first did
 pub record Leads (t : Lists) (m : Mem) (c : Gathered) (sc : Scan) (m' : Mem) (c' : Gathered) (sc' : Scan) : Type 0 where
-  pub leads : (r : Rooms) (g : State) (o : Out) → Holding t r m c g o → (g' : State) × (o' : Out) × Holding t r m' c' g' o' × (run t r sc g o ≡ run t r sc' g' o')
+  pub leads : (r : Rooms) (g : State) (o : Out) → Holds t r m c g o → (g' : State) × (o' : Out) × Holds t r m' c' g' o' × (run t r sc g o ≡ run t r sc' g' o')
 
 -- a refusal's number and place
 pub record Quits (t : Lists) (m : Mem) (c : Gathered) (sc : Scan) (n p : ℕ) : Type 0 where
-  pub quits : (r : Rooms) (g : State) (o : Out) → Holding t r m c g o → run t r sc g o ≡ out n p
+  pub quits : (r : Rooms) (g : State) (o : Out) → Holds t r m c g o → run t r sc g o ≡ out n p
 
 pub leads-self : {t : Lists} {m : Mem} {c : Gathered} {sc : Scan} → Leads t m c sc m c sc
 leads-self = record { leads = λ r g o h. (g, o, h, refl) }
@@ -36,8 +36,8 @@ module _ {t : Lists} {m : Mem} {c : Gathered} {sc : Scan} {m₁ : Mem} {c₁ : G
 
 -- so do the turns
 module _ {t : Lists} {m : Mem} {c : Gathered} {a : Act} where
-  pub goes-leads : {m' : Mem} {c' : Gathered} {over : Bool} → ((r : Rooms) (g : State) (o : Out) → Holding t r m c g o → Goes t r a m' c' over g o) → (p : ℕ) (rest : Scan) → Leads t m c (say a p rest) m' c' (leftOf over a p rest)
+  pub goes-leads : {m' : Mem} {c' : Gathered} {over : Bool} → ((r : Rooms) (g : State) (o : Out) → Holds t r m c g o → Goes t r a m' c' over g o) → (p : ℕ) (rest : Scan) → Leads t m c (say a p rest) m' c' (leftOf over a p rest)
   goes-leads f p rest = record { leads = λ r g o h. let x = f r g o h in (x .state, x .output, x .holds, x .left p rest) }
 
-  pub stops-quits : ((r : Rooms) (g : State) (o : Out) → Holding t r m c g o → Stops t r a g o) → (p : ℕ) (rest : Scan) → Quits t m c (say a p rest) 16 p
+  pub stops-quits : ((r : Rooms) (g : State) (o : Out) → Holds t r m c g o → Stops t r a g o) → (p : ℕ) (rest : Scan) → Quits t m c (say a p rest) 16 p
   stops-quits f p rest = record { quits = λ r g o h. f r g o h .stops p rest }

@@ -9,23 +9,21 @@ use Rattle.tables.specs.Lists.{Lists, nth}
 use Rattle.tables.specs.Layout.{layoutOf}
 use Rattle.rules.specs.Gather.{State}
 use Rattle.records.specs.declared.Counts.{Counts}
-use Rattle.records.specs.declared.Put.{Put}
 use Rattle.records.specs.declared.Put.the-variants as put
 use Rattle.records.specs.Out.{Rooms, Out}
 use Rattle.records.specs.Out.Laws.{Appends}
 use Rattle.vecmarks.specs.Info.{infoAt}
 use Rattle.gather.specs.declared.VecInfo.{VecInfo}
-use Rattle.gather.specs.Memory.{Mem, Tabled}
+use Rattle.gather.specs.Memory.{Holds, Mem, Tabled}
 use Rattle.gather.specs.Run.{Scan, say, alone}
 use Rattle.gather.specs.Writes.{vecInfoFrom, Looks}
 use Rattle.section_heads.specs.declared.Phase.the-variants.{Listed}
 use Rattle.section_heads.specs.declared.Said.{Said}
 use Rattle.section_heads.specs.declared.Said.the-variants.{Write}
 use Rattle.section_heads.specs.declared.Item.{Item}
-use Rattle.turns.specs.declared.Gathered.{Gathered}
+use Rattle.gather.specs.declared.Gathered.{Gathered}
 use Rattle.turns.specs.Turns as turn
 use Rattle.turns.specs.Turns.{Made, showVector}
-use Rattle.turns.specs.Goes.{Holding}
 use Rattle.plain_writes.specs.Plain.{AloneAt}
 use Rattle.vector_turns.specs.OneVector.{BitIn, isWrite, actOf, forVector, vectorOf, Concerned}
 use Rattle.vector_turns.specs.OneVector.Laws.{Ready, waits, toTurn}
@@ -85,7 +83,7 @@ pub record TurnAsks (t : Lists) (m : Mem) (c : Gathered) (x : Item) : Type 0 whe
   pub rooms : Rooms
   pub state : State
   pub output : Out
-  pub holds : Holding t rooms m c state output
+  pub holds : Holds t rooms m c state output
   pub ready : Ready t c (x .said)
   pub named : (v id : ℕ) → x .said ≡ Write v id → x .then .id ≡ id
 

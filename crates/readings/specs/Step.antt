@@ -20,8 +20,7 @@ use Rattle.section_heads.specs.declared.Stand.{Stand}
 use Rattle.section_heads.specs.declared.Item.{Item}
 use Rattle.section_heads.specs.Heads.{standing}
 use Rattle.sections.specs.Item.{afterValues}
-use Rattle.vector_turns.specs.OneVector.{begun}
-use Rattle.item_acts.specs.Moves.{Says, moves-then, moves-refuses, time-leads, time-moves, time-refuses}
+use Rattle.item_acts.specs.Moves.{Says, counting, moves-then, moves-refuses, time-leads, time-moves, time-refuses}
 use Rattle.value_readings.specs.Values.{ValuesAsk, behindOf, EndsBy, Values}
 
 pub record Opened (t : Lists) (s : List ℕ) (m : Mem) (c : Gathered) (x : Item) (m' : Mem) (r : Part) : Type 0 where
@@ -33,25 +32,25 @@ module _ {t : Lists} {s room list events values : List ℕ} {c : Gathered} {x : 
 
   module _ {events₁ : List ℕ} {w : Put} (f : (v : List ℕ) → Appends (event.time (x .then .time) ∷ []) events v (c .counts) events₁ v w) where
     pub step-full : w ≡ put.Full → {m' : Mem} → Opened t s (memOf room list events values) c x m' (part.Out 16 (x .at))
-    step-full e = record { ends = λ how. time-refuses t room list {c = begun c} (f values) (x .at) e }
+    step-full e = record { ends = λ how. time-refuses t room list (f values) (x .at) e }
 
     module _ {n : Counts} (e : w ≡ put.Done n) where
-      pub step-ask : ValuesAsk t s (memOf room list events₁ values) (record { listed = c .listed; counts = n }) x
+      pub step-ask : ValuesAsk t s (memOf room list events₁ values) (counting c n) x
       step-ask =
-          let h = time-leads t room list {c = begun c} (f values) (x .at) e (done 0) .leads (q .asks .rooms) (q .asks .state) (q .asks .output) (q .asks .holds) in
+          let h = time-leads t room list (f values) (x .at) e (done 0) .leads (q .asks .rooms) (q .asks .state) (q .asks .output) (q .asks .holds) in
           record {
-            asks = record { tabled = q .asks .tabled; rooms = q .asks .rooms; state = h .0; output = h .1; holds = h .2 };
+            asks = record { tabled = q .asks .tabled; rooms = q .asks .rooms; state = h .0; output = h .1; holds = h .2; begun = q .asks .begun };
             values = q .values;
             first = q .first;
             inside = q .inside;
           }
 
-      opened-by : (m' : Mem) (r : Part) → EndsBy t s (λ L. L) (memOf room list events₁ values) (record { listed = c .listed; counts = n }) x m' r
+      opened-by : (m' : Mem) (r : Part) → EndsBy t s (λ L. L) (memOf room list events₁ values) (counting c n) x m' r
           → EndsBy t s (Says (time (x .then .time)) (x .at)) (memOf room list events values) c x m' r
-      opened-by m' (part.Went i k) y = (y .0, λ how. moves-then (time-moves t room list {c = begun c} (f values) (x .at) e) (y .1 how))
-      opened-by m' (part.Out m p) y = λ how. moves-refuses (time-moves t room list {c = begun c} (f values) (x .at) e) (y how)
+      opened-by m' (part.Went i k) y = (y .0, y .1, λ how. moves-then (time-moves t room list (f values) (x .at) e) (y .2 how))
+      opened-by m' (part.Out m p) y = λ how. moves-refuses (time-moves t room list (f values) (x .at) e) (y how)
 
-      pub step-opened : {m' : Mem} {r : Part} → Values t s (memOf room list events₁ values) (record { listed = c .listed; counts = n }) x m' r → Opened t s (memOf room list events values) c x m' r
+      pub step-opened : {m' : Mem} {r : Part} → Values t s (memOf room list events₁ values) (counting c n) x m' r → Opened t s (memOf room list events values) c x m' r
       step-opened {m'} {r} y = record { ends = opened-by m' r (y .ends) }
 
 pub ruleset step-laws = (step-room, step-full, step-ask, step-opened)

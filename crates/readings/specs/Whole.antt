@@ -1,11 +1,10 @@
 -- All sections: the loop over what stands between steps.
 -- Assumes nothing.
-use Prim.Native.Nat.{ℕ, _+_, _*_, _<_, _≤_}
+use Prim.Native.Nat.{ℕ, _<_}
 use mathlib.Core.Path.{_≡_, refl, sym, ap, subst, _∙_}
-use mathlib.Core.Bool.{Bool, true, false, cond}
+use mathlib.Core.Bool.{false}
 use mathlib.Core.List.{List}
 use native.Mathlib.Omega.{arith}
-use lib.ListN.{length}
 use Rattle.slices.specs.Choice.{cond-ind}
 use Rattle.tables.specs.Lists.{Lists}
 use Rattle.rules.specs.Gather.{time}
@@ -13,10 +12,9 @@ use Rattle.gather.specs.declared.Gathered.{Gathered}
 use Rattle.gather.specs.declared.Part.{Part}
 use Rattle.gather.specs.declared.Part.the-variants as part
 use Rattle.gather.specs.Run.{Scan, say, done, fault, run}
-use Rattle.gather.specs.Memory.{Mem}
+use Rattle.gather.specs.Memory.{Mem, Sized, sized-self}
 use Rattle.gather.specs.Follows.{Asks, Runs}
 use Rattle.section_parts.specs.Sections.{scanSections}
-use Rattle.gather.specs.Memory.{Sized, sized-self}
 use Rattle.section_heads.specs.declared.How.{How}
 use Rattle.section_heads.specs.declared.Phase.{Phase}
 use Rattle.section_heads.specs.declared.Phase.the-variants.{Mark, Closing, Between}
@@ -27,8 +25,7 @@ use Rattle.section_heads.specs.declared.Item.{Item}
 use Rattle.section_heads.specs.Heads.{standing}
 use Rattle.sections.specs.Item.{isEach, inValues, afterValues, headItem}
 use Rattle.sections.specs.Item.Scans.{sayOf, rank, toRead, Left, GoesOn, FollowsBy, left-all}
-use Rattle.vector_turns.specs.OneVector.{begun}
-use Rattle.item_turns.specs.Leads.{Leads, leads-self, leads-then, leads-quits, Quits}
+use Rattle.item_turns.specs.Leads.{Leads, leads-self, leads-then, leads-quits}
 use Rattle.item_acts.specs.Moves.{Says}
 use Rattle.value_readings.specs.Values.{ValuesAsk, behindOf, EndsBy}
 use Rattle.readings.specs.Heads.{HeadBy, IsHead, head-says, head-follows}
@@ -41,7 +38,7 @@ pub record OnSections (t : Lists) (how : How) (s : List ℕ) (m₀ : Mem) (c₀ 
   pub heads : inValues (x .phase) ≡ false
   pub rest : Scan
   pub here : Left t how s x i rest
-  pub leads : Leads t m₀ (begun c₀) (scanSections t (how .«big_endian») s) m (begun c) rest
+  pub leads : Leads t m₀ c₀ (scanSections t (how .«big_endian») s) m c rest
 
 pub sections-start : {t : Lists} {m : Mem} {c : Gathered} → Asks t m c → (how : How) (s : List ℕ) {x : Stand} → x ≡ standing Mark 0 0 → OnSections t how s m c m c x 0
 sections-start {t} q how s e = rw e (record { asks = q; sized = sized-self; heads = refl; rest = scanSections t (how .«big_endian») s; here = left-all t how s; leads = leads-self })
@@ -130,11 +127,11 @@ module _ {t : Lists} {how : How} {s : List ℕ} {m₀ : Mem} {c₀ : Gathered} {
 
           pub sections-on : Sized m m' → {x' : Stand} → x' ≡ behindOf y → OnSections t how s m₀ c₀ m' k x' j
           sections-on l w =
-              let v = ends .1 how .moves (o .rest) said in
+              let v = ends .2 how .moves (o .rest) said in
               let n = v .2 .leads (o .asks .rooms) (o .asks .state) (o .asks .output) (o .asks .holds) in
               rw w
               (record {
-                asks = record { tabled = o .asks .tabled; rooms = o .asks .rooms; state = n .0; output = n .1; holds = n .2 };
+                asks = record { tabled = o .asks .tabled; rooms = o .asks .rooms; state = n .0; output = n .1; holds = n .2; begun = ends .0 };
                 sized = record { room = l .room ∙ o .sized .room; list = l .list ∙ o .sized .list; events = l .events ∙ o .sized .events; values = l .values ∙ o .sized .values };
                 heads = after-head (y .then .phase);
                 rest = v .0;
@@ -143,6 +140,6 @@ module _ {t : Lists} {how : How} {s : List ℕ} {m₀ : Mem} {c₀ : Gathered} {
               })
 
           pub sections-less : {x' : Stand} → x' ≡ behindOf y → toRead s x' j < toRead s x i
-          sections-less w = rw w (omega (arith, ends .0, begun-less))
+          sections-less w = rw w (omega (arith, ends .1, begun-less))
 
 pub ruleset sections-laws = (sections-start, sections-sized, sections-over, sections-bad, sections-past, past-less, sections-ask, sections-out, sections-on, sections-less)

@@ -42,6 +42,7 @@ fn read_step<'a>(
     match time_change(events, c.counts, then.time) {
         Put::Done(counts) => {
             let g = Gathered {
+                ended: c.ended,
                 listed: c.listed,
                 counts,
             };

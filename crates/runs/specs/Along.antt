@@ -64,10 +64,6 @@ pub record Took (i : VecBufferInfo) (s : List ℕ) (left at : ℕ) (room room' :
 
 -- ---- what the tables say of a bit of a vector
 
-map-most : (k : States) (b : ℕ) → b ≤ bitMost k → bitMap k b ≤ bitMost k
-map-most Two b h = h
-map-most Nine b h = mapped-most b h
-
 module _ {t : Lists} (k : Tabled t) (v id : ℕ) (known : v < length (t .mins)) (above : getD (t .mins) v 0 ≤ id) (below : id ≤ getD (t .maxs) v 0) where
   abbrev state : States
   state = layoutOf t .state v
@@ -77,10 +73,6 @@ module _ {t : Lists} (k : Tabled t) (v id : ℕ) (known : v < length (t .mins)) 
 
   last : id ≤ length (t .kinds)
   last = omega (arith, k .ranged .vector v known .most)
-
-  last-signal : id ≤ signals t
-  unfolding signals
-  last-signal = last
 
   up : id - 1 + 1 ≡ id
   up = omega (arith, first)

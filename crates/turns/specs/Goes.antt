@@ -10,16 +10,12 @@ use Rattle.rules.specs.Gather.{Act, State}
 use Rattle.records.specs.Event.{Event}
 use Rattle.records.specs.Out.{Rooms, Out, appendAll}
 use Rattle.gather.specs.Run.{Scan, say, out, fitted, run}
-use Rattle.gather.specs.Memory.{Mem, HoldsAt}
+use Rattle.gather.specs.Memory.{Holds, Mem}
 use Rattle.gather.specs.Makes.{eventOf}
-use Rattle.turns.specs.declared.Gathered.{Gathered}
+use Rattle.gather.specs.declared.Gathered.{Gathered}
 use Rattle.turns.specs.declared.Turned.{Turned}
 use Rattle.turns.specs.Parts.{firing}
 pub mod Laws
-
--- the vectors listed still are those from the number `ended` to `listed` of the list
-abbrev pub Holding : Lists → Rooms → Mem → Gathered → State → Out → Type 0
-Holding t r m c g o = HoldsAt t r m (c .ended) (record { listed = c .listed; counts = c .counts }) g o
 
 -- what is left to be said: the act again, or what stands behind it
 abbrev pub leftOf : Bool → Act → ℕ → Scan → Scan
@@ -32,7 +28,7 @@ dueEvents t v due g = cond due (eventOf t v (g .vecs v) ∷ []) []
 -- after a turn on vector v that answered w: the memory holds a state, from which the event that is due comes first, and then what is left
 pub record After (t : Lists) (r : Rooms) (v : ℕ) (a : Act) (m : Mem) (c : Gathered) (w : Turned) (g : State) (o : Out) : Type 0 where
   pub state : State
-  pub holds : Holding t r m (record { ended = w .ended; listed = w .listed; counts = c .counts }) state o
+  pub holds : Holds t r m (record { ended = w .ended; listed = w .listed; counts = c .counts }) state o
   pub left : (p : ℕ) (rest : Scan)
       → run t r (say a p rest) g o ≡ fitted p (appendAll r (dueEvents t v (w .due) state) (some o)) out (λ o′. run t r (leftOf (w .over) a p rest) (firing (w .due) v state) o′)
 
@@ -40,7 +36,7 @@ pub record After (t : Lists) (r : Rooms) (v : ℕ) (a : Act) (m : Mem) (c : Gath
 pub record Goes (t : Lists) (r : Rooms) (a : Act) (m : Mem) (c : Gathered) (over : Bool) (g : State) (o : Out) : Type 0 where
   pub state : State
   pub output : Out
-  pub holds : Holding t r m c state output
+  pub holds : Holds t r m c state output
   pub left : (p : ℕ) (rest : Scan) → run t r (say a p rest) g o ≡ run t r (leftOf over a p rest) state output
 
 -- "16: next event doesn't fit event or value room: next unread byte"

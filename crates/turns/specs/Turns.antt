@@ -16,7 +16,7 @@ use Rattle.vecmarks.specs.Full.{fullIn}
 use Rattle.vecbuffer.specs.Changes as change
 use Rattle.vecbuffer.specs.Changes.{updated, Updates, taken}
 use Rattle.gather.specs.declared.VecInfo.{VecInfo}
-use Rattle.turns.specs.declared.Gathered.{Gathered}
+use Rattle.gather.specs.declared.Gathered.{Gathered}
 use Rattle.turns.specs.declared.Turned.{Turned}
 pub mod Code
 

@@ -1,5 +1,6 @@
 // The gatherer's small steps over the lent memory: a write or a step's end does one thing to one vector, and says whether an event is due and whether the
 // act is over.
+use gather::Gathered;
 use gather::VecInfo;
 use records::Counts;
 use records::Put;
@@ -13,13 +14,6 @@ use vecmarks::is_second_change;
 use vecmarks::unlist;
 ghost use mathlib.Core.Path.{_≡_};
 ghost use Rattle.turns.specs.Turns.{Left, Writing, turnWrite, Unlists, turnEnd, Made, Showing, showVector};
-
-// Which vectors are listed in the open step, from the number `ended` to `listed` of the list, and how much of the two rooms is used.
-pub struct Gathered {
-    pub ended: usize,
-    pub listed: usize,
-    pub counts: Counts,
-}
 
 // What a turn did to a vector: whether an event is due, whether the act is over, and which vectors are listed then.
 pub struct Turned {

@@ -1,12 +1,11 @@
 -- What the items of a step's values say: writes and the step's end; and what is left behind them.
 -- Assumes nothing.
-use Prim.Native.Nat.{ℕ, _+_, _-_, _<_, _≤_}
-use mathlib.Core.Path.{_≡_, refl, sym, ap, subst, _∙_}
-use mathlib.Core.Bool.{Bool, true, false, cond, false≢true}
+use Prim.Native.Nat.{ℕ, _-_, _<_}
+use mathlib.Core.Path.{_≡_, refl, sym, ap, subst}
+use mathlib.Core.Bool.{true, false, false≢true}
 use mathlib.Core.List.{List}
-use native.Mathlib.Omega.{arith}
 use lib.Dec.{eqb}
-use lib.ListN.{length, getD}
+use lib.ListN.{getD}
 use Rattle.slices.specs.Choice.{cond-ind}
 use Rattle.tables.specs.Lists.{Lists, nth}
 use Rattle.values.specs.declared.Read.{Read}
@@ -28,7 +27,7 @@ use Rattle.item_turns.specs.Turn as turn
 use Rattle.item_turns.specs.Turn.{Behind, saidBehind}
 use Rattle.item_acts.specs.Acts.{ActBy, SaidAt}
 use Rattle.item_acts.specs.Acts.Laws.{LeftBehind}
-use Rattle.turns.specs.declared.Gathered.{Gathered}
+use Rattle.gather.specs.declared.Gathered.{Gathered}
 use Rattle.sections_along.specs.Along.{left-along}
 
 -- ---- the values of a step

@@ -1,6 +1,6 @@
 -- The values of a step: what the loop asks, and that what is left to be run after it is what was left before.
 -- Assumes nothing.
-use Prim.Native.Nat.{ℕ, _<_, _≤_}
+use Prim.Native.Nat.{ℕ, _≤_}
 use mathlib.Core.Path.{_≡_}
 use mathlib.Core.Bool.{true}
 use mathlib.Core.List.{List}
@@ -8,24 +8,20 @@ use lib.ListN.{length}
 use Rattle.tables.specs.Lists.{Lists}
 use Rattle.rules.specs.Gather.{State}
 use Rattle.records.specs.Out.{Rooms, Out}
-use Rattle.gather.specs.declared.Gathered as between
 use Rattle.gather.specs.declared.Part.{Part}
 use Rattle.gather.specs.declared.Part.the-variants as part
 use Rattle.gather.specs.Run.{Scan}
-use Rattle.gather.specs.Memory.{Mem, Tabled}
+use Rattle.gather.specs.Memory.{Holds, Mem, Tabled}
 use Rattle.gather.specs.Follows.{Asks}
-use Rattle.gather.specs.Memory.{Sized}
 use Rattle.section_heads.specs.declared.How.{How}
-use Rattle.section_heads.specs.declared.Phase.{Phase}
 use Rattle.section_heads.specs.declared.Stand.{Stand}
 use Rattle.section_heads.specs.declared.Said.{Said}
 use Rattle.section_heads.specs.declared.Item.{Item}
 use Rattle.section_heads.specs.Heads.{standing}
 use Rattle.sections.specs.Item.{inValues, afterValues, valueItem}
 use Rattle.sections.specs.Item.Scans.{toRead, Left}
-use Rattle.turns.specs.declared.Gathered.{Gathered}
-use Rattle.turns.specs.Goes.{Holding}
-use Rattle.vector_turns.specs.OneVector.{isWrite, begun}
+use Rattle.gather.specs.declared.Gathered.{Gathered}
+use Rattle.vector_turns.specs.OneVector.{isWrite}
 use Rattle.item_acts.specs.Moves.{Moves, Refuses}
 use Rattle.item_acts.specs.Acts.{toGo}
 pub mod Laws
@@ -42,7 +38,7 @@ pub record PlaceAsks (t : Lists) (s : List ℕ) (m : Mem) (c : Gathered) (x : St
   pub rooms : Rooms
   pub state : State
   pub output : Out
-  pub holds : Holding t rooms m c state output
+  pub holds : Holds t rooms m c state output
   pub values : inValues (x .phase) ≡ true
   pub stood : x .id ≤ length (t .kinds)
   pub inside : i ≤ length s
@@ -59,7 +55,7 @@ pub record Goes (t : Lists) (s : List ℕ) (m : Mem) (c : Gathered) (x : Stand) 
 -- ---- all of a step
 
 -- after the item that said its time
-pub record ValuesAsk (t : Lists) (s : List ℕ) (m : Mem) (c : between.Gathered) (x : Item) : Type 0 where
+pub record ValuesAsk (t : Lists) (s : List ℕ) (m : Mem) (c : Gathered) (x : Item) : Type 0 where
   pub asks : Asks t m c
   pub values : inValues (x .then .phase) ≡ true
   pub first : x .then .id ≡ 0
@@ -69,10 +65,10 @@ abbrev pub behindOf : Item → Stand
 behindOf x = standing (afterValues (x .then .phase)) 0 (x .then .time)
 
 -- what is left at its beginning, which `says` may put something before, and at its end
-abbrev pub EndsBy : Lists → List ℕ → ((Scan → Type 0) → Scan → Type 0) → Mem → between.Gathered → Item → Mem → Part → Type 0
+abbrev pub EndsBy : Lists → List ℕ → ((Scan → Type 0) → Scan → Type 0) → Mem → Gathered → Item → Mem → Part → Type 0
 EndsBy t s says m c x m' (part.Went i c') =
-    (toRead s (behindOf x) i ≤ toRead s (x .then) (x .at)) × ((how : How) → Moves t m (begun c) (says (Left t how s (x .then) (x .at))) m' (begun c') (Left t how s (behindOf x) i))
-EndsBy t s says m c x m' (part.Out n p) = (how : How) → Refuses t m (begun c) (says (Left t how s (x .then) (x .at))) n p
+    (c' .ended ≡ 0) × (toRead s (behindOf x) i ≤ toRead s (x .then) (x .at)) × ((how : How) → Moves t m c (says (Left t how s (x .then) (x .at))) m' c' (Left t how s (behindOf x) i))
+EndsBy t s says m c x m' (part.Out n p) = (how : How) → Refuses t m c (says (Left t how s (x .then) (x .at))) n p
 
-pub record Values (t : Lists) (s : List ℕ) (m : Mem) (c : between.Gathered) (x : Item) (m' : Mem) (r : Part) : Type 0 where
+pub record Values (t : Lists) (s : List ℕ) (m : Mem) (c : Gathered) (x : Item) (m' : Mem) (r : Part) : Type 0 where
   pub ends : EndsBy t s (λ L. L) m c x m' r

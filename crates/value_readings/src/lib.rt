@@ -12,7 +12,6 @@ use section_heads::Item;
 use section_heads::Stand;
 use section_heads::standing;
 use sections::value_item;
-use vector_turns::begun;
 use vector_turns::next_step;
 ghost use Rattle.sections.specs.Item.{valueItem};
 ghost use Rattle.item_acts.specs.Acts.{Acts};
@@ -34,7 +33,7 @@ fn one_value<'a>(
     list: &mut [u32],
     events: &mut [u8],
     values: &mut [u8],
-    g: turns::Gathered,
+    g: Gathered,
     p: Place,
 ) -> Acted
     requires { ⌜ PlaceAsks (tables b n) (now s) (lent room list events values) g (p .x) (p .at) ⌝ }
@@ -70,7 +69,7 @@ pub fn read_values<'a>(
     let time = from.time;
     let mut id: usize = 0;
     let mut at = opened.at;
-    let mut g = begun(c);
+    let mut g = c;
     loop {
         let x = standing(phase, id, time);
         let w = one_value(b, n, s, room, list, events, values, g, Place { x, at });

@@ -1,7 +1,7 @@
 -- The last arms of matches on what is said, which name no variant: what they leave.
 -- Assumes nothing.
 use Prim.Native.Nat.{ℕ, _<_}
-use mathlib.Core.Path.{_≡_, refl, sym, ap, subst, _∙_}
+use mathlib.Core.Path.{_≡_, refl, ap}
 use mathlib.Core.Bool.{true}
 use mathlib.Core.List.{List, [], _∷_}
 use lib.ListN.{length}
@@ -12,7 +12,7 @@ use Rattle.section_heads.specs.declared.Said.{Said}
 use Rattle.section_heads.specs.declared.Said.the-variants.{Nothing, Time, Write, StepEnd, Over, Bad}
 use Rattle.vecstarts.specs.Numbers.{listedIn}
 use Rattle.gather.specs.declared.VecInfo.{VecInfo}
-use Rattle.turns.specs.declared.Gathered.{Gathered}
+use Rattle.gather.specs.declared.Gathered.{Gathered}
 use Rattle.turns.specs.declared.Turned.{Turned}
 use Rattle.turns.specs.Turns.{mk, turnEnd, Unlists}
 use Rattle.vector_turns.specs.OneVector.{forVector, vectorOf, ConcernedBy, Concerned, endTurn, turned, TurningBy, Turning}

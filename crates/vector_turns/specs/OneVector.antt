@@ -1,7 +1,6 @@
 -- What an item of the input means to one vector: which vector it is for, and what it does to it.
 -- Assumes nothing.
 use Prim.Native.Nat.{ℕ, _-_, _%_, _<_, _≤_}
-use mathlib.Core.Path.{_≡_}
 use mathlib.Core.Bool.{Bool, true, false, not}
 use mathlib.Core.List.{List}
 use lib.Dec.{eqb}
@@ -9,11 +8,10 @@ use lib.ListN.{length, getD}
 use Rattle.tables.specs.Lists.{nth}
 use Rattle.rules.specs.Gather.{Act, write, stepEnd}
 use Rattle.vecstarts.specs.Numbers.{listedIn}
-use Rattle.gather.specs.declared.Gathered as between
 use Rattle.gather.specs.declared.VecInfo.{VecInfo}
 use Rattle.section_heads.specs.declared.Said.{Said}
 use Rattle.section_heads.specs.declared.Said.the-variants.{Nothing, Time, Write, StepEnd, Over, Bad}
-use Rattle.turns.specs.declared.Gathered.{Gathered}
+use Rattle.gather.specs.declared.Gathered.{Gathered}
 use Rattle.turns.specs.Turns.{Left, mk, turnWrite, turnEnd, Writing, Unlists}
 pub mod Code
 pub mod Laws
@@ -123,11 +121,7 @@ TurningBy room list maxs x c (Bad n) = Unlists room x c
 pub record Turning (room list maxs : List ℕ) (x : VecInfo) (c : Gathered) (a : Said) : Type 0 where
   pub turning : TurningBy room list maxs x c a
 
--- ---- a step's beginning and end
+-- ---- after a step
 
--- outside a step's end it has come to none
-abbrev pub begun : between.Gathered → Gathered
-begun c = record { ended = 0; listed = c .listed; counts = c .counts }
-
-abbrev pub nextStep : Gathered → between.Gathered
-nextStep c = record { listed = 0; counts = c .counts }
+abbrev pub nextStep : Gathered → Gathered
+nextStep c = record { ended = 0; listed = 0; counts = c .counts }

@@ -1,8 +1,8 @@
 // What an item of the input does to one vector: which vector it is for, and its turn; and when a step's end has come to each.
+use gather::Gathered;
 use gather::VecInfo;
 use gather::widen;
 use section_heads::Said;
-use turns::Gathered;
 use turns::Turned;
 use turns::turn_end;
 use turns::turn_write;
@@ -13,7 +13,7 @@ ghost use lib.Dec.{eqb};
 ghost use lib.ListN.{getD};
 ghost use Rattle.tables.specs.Lists.{nth};
 ghost use Rattle.turns.specs.Turns.{Left};
-ghost use Rattle.vector_turns.specs.OneVector.{IdIn, BitIn, Named, forVector, Concerned, vectorOf, Turning, turned, begun, nextStep};
+ghost use Rattle.vector_turns.specs.OneVector.{IdIn, BitIn, Named, forVector, Concerned, vectorOf, Turning, turned, nextStep};
 
 // The vector number of a signal, 0 for none.
 fn vector_number(vecs: &[u32], id: usize) -> usize
@@ -83,22 +83,14 @@ pub fn all_ended(c: Gathered) -> bool
     c.ended == c.listed
 }
 
-// As a step begins: its end has come to none.
-pub fn begun(c: gather::Gathered) -> Gathered
-    ensures { λ r. ⌜ r ≡ begun c ⌝ }
+// After the step's end: nothing is listed.
+pub fn next_step(c: Gathered) -> Gathered
+    ensures { λ r. ⌜ r ≡ nextStep c ⌝ }
 {
     let counts = c.counts;
     Gathered {
         ended: 0,
-        listed: c.listed,
+        listed: 0,
         counts,
     }
-}
-
-// After the step's end: nothing is listed.
-pub fn next_step(c: Gathered) -> gather::Gathered
-    ensures { λ r. ⌜ r ≡ nextStep c ⌝ }
-{
-    let counts = c.counts;
-    gather::Gathered { listed: 0, counts }
 }

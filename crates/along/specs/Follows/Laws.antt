@@ -24,7 +24,7 @@ use Rattle.gather.specs.declared.Gathered.{Gathered}
 use Rattle.gather.specs.declared.VecInfo.{VecInfo}
 use Rattle.gather.specs.Follows.{Done, Acts}
 use Rattle.gather.specs.Run.{gathers, Scan, say, fitted, acted, after, run}
-use Rattle.gather.specs.Memory.{memOf, Tabled, HoldsAt, Holds}
+use Rattle.gather.specs.Memory.{memOf, Tabled, HoldsAt}
 use Rattle.gather.specs.Makes.{Seen}
 use Rattle.gather.specs.Quiet.{acts-quietly, quietly-on}
 use Rattle.runs.specs.Along.{bitMost, bitMap, Taken}
@@ -38,7 +38,7 @@ map-small Nine b h = omega (arith, mapped-most b h)
 pub record Came (t : Lists) (r : Rooms) (v : ℕ) (s list events values : List ℕ) (c : Gathered) (g : State) (o : Out) (room' : List ℕ) (left' : ℕ) (says : Scan → Scan) : Type 0 where
   pub state : State
   pub output : Out
-  pub holds : Holds t r (memOf room' list events values) c state output
+  pub holds : HoldsAt t r (memOf room' list events values) 0 c state output
   pub quiet : isQuiet (infoAt (layoutOf t) v) (flagsAt (layoutOf t)) v room' ≡ true
   pub inside : left' < layoutOf t .width v
   pub left : (rest : Scan) → run t r (says rest) g o ≡ run t r rest state output
@@ -112,10 +112,10 @@ module _ {t : Lists} (k : Tabled t) {v : ℕ} (known : v < length (t .mins)) whe
         acts : Acts t (memOf room₁ list events values) (memOf room₂ list events values) c (Done c) a
         acts = rw stored (acts-quietly t v count room₁ left₂ x in-width small bit-some free (y .quiet) (max - left₂) (at₁ + 1) (number left₂ in-width) (place left₂ in-width) (wide left₂ in-width))
 
-        f : (o′ : Out) × (acted t r (y .state) (y .output) a ≡ some o′) × Holds t r (memOf room₂ list events values) c (after t r (y .state) a) o′
+        f : (o′ : Out) × (acted t r (y .state) (y .output) a ≡ some o′) × HoldsAt t r (memOf room₂ list events values) 0 c (after t r (y .state) a) o′
         f = acts .follows r (y .state) (y .output) (y .holds)
 
-    pub came : {room : List ℕ} → Holds t r (memOf room list events values) c g o → isQuiet (infoAt (layoutOf t) v) (flagsAt (layoutOf t)) v room ≡ true → {left at : ℕ} → left < layoutOf t .width v
+    pub came : {room : List ℕ} → HoldsAt t r (memOf room list events values) 0 c g o → isQuiet (infoAt (layoutOf t) v) (flagsAt (layoutOf t)) v room ≡ true → {left at : ℕ} → left < layoutOf t .width v
         → {room' : List ℕ} {left' at' : ℕ} (a : Along (infoAt (layoutOf t) v) s room left at room' left' at') → Came t r v s list events values c g o room' left' (said max a)
     unfolding said
     came h quiet inside none = record { state = g; output = o; holds = h; quiet = quiet; inside = inside; left = λ rest. refl }

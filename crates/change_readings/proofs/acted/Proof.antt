@@ -16,9 +16,6 @@ enum-told-3 c = search (acted-laws, needs)
 next-step-requires : tie.Need-next-step-requires
 next-step-requires c κs = search (acted-laws, needs)
 
-begun-requires : tie.Need-begun-requires
-begun-requires c κs = search (acted-laws, needs)
-
 enum-told-4 : tie.Need-enum-told-4
 enum-told-4 c = search (acted-laws, needs)
 
@@ -42,7 +39,6 @@ acted-spec =
     enum-told-2
     enum-told-3
     next-step-requires
-    begun-requires
     enum-told-4
     returns
     returns-2

@@ -14,9 +14,6 @@ Inv-loop b n s room₀ list₀ events₀ values₀ inside₀ at₀ g₀ room lis
 abbrev μ-loop : tie.MeasureT-loop
 μ-loop b n s room₀ list₀ events₀ values₀ inside₀ at₀ g₀ room list events values inside at g = toRecord (tables b n) s (memOf room list events values) g inside at
 
-begun-requires : tie.Need-begun-requires Inv-loop μ-loop
-begun-requires c κs = search (records-laws, needs)
-
 loop-holds : tie.Need-loop-holds Inv-loop μ-loop
 loop-holds c = search (records-laws, needs)
 
@@ -34,9 +31,6 @@ loop-again c = search (records-laws, needs)
 
 enum-told-2 : tie.Need-enum-told-2 Inv-loop μ-loop
 enum-told-2 c = search (records-laws, needs)
-
-between-requires : tie.Need-between-requires Inv-loop μ-loop
-between-requires c κs = search (records-laws, needs)
 
 same-length : tie.Need-same-length Inv-loop μ-loop
 same-length c = search (records-laws, needs)
@@ -77,14 +71,12 @@ read-changes-spec =
     (tie.spec
     Inv-loop
     μ-loop
-    begun-requires
     loop-holds
     one-record-requires
     enum-told
     loop-less
     loop-again
     enum-told-2
-    between-requires
     same-length
     same-length-2
     same-length-3

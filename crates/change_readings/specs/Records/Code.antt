@@ -1,7 +1,7 @@
 -- What the proofs of the functions search: answers, and the loop over all records.
 -- Assumes nothing.
-use Prim.Native.Nat.{ℕ, _<_, _≤_}
-use mathlib.Core.Path.{_≡_, refl, sym, ap, subst, _∙_}
+use Prim.Native.Nat.{ℕ, _<_}
+use mathlib.Core.Path.{_≡_, ap, subst, _∙_}
 use mathlib.Core.Bool.{Bool, true, false}
 use mathlib.Core.List.{List}
 use native.Mathlib.Omega.{arith}
@@ -9,15 +9,12 @@ use Rattle.tables.specs.Lists.{Lists}
 use Rattle.records.specs.declared.Counts.{Counts}
 use Rattle.records.specs.declared.Put.{Put}
 use Rattle.records.specs.declared.Put.the-variants as put
-use Rattle.gather.specs.declared.Gathered as old
 use Rattle.gather.specs.declared.Part.the-variants as part
 use Rattle.gather.specs.Run.{Scan, run}
-use Rattle.gather.specs.Memory.{Mem, HoldsAt}
+use Rattle.gather.specs.Memory.{Mem, Sized, sized-self}
 use Rattle.gather.specs.Follows.{Asks, Runs}
-use Rattle.gather.specs.Memory.{Sized, sized-self}
-use Rattle.turns.specs.declared.Gathered.{Gathered}
-use Rattle.turns.specs.Goes.{Holding}
-use Rattle.vector_turns.specs.OneVector.{begun, nextStep}
+use Rattle.gather.specs.declared.Gathered.{Gathered}
+use Rattle.vector_turns.specs.OneVector.{nextStep}
 use Rattle.item_acts.specs.declared.Tag.the-variants as tag
 use Rattle.item_acts.specs.declared.Acted.{Acted}
 use Rattle.item_acts.specs.Moves.{Moves, moves-self, moves-then, moves-refuses, counting}
@@ -27,7 +24,7 @@ use Rattle.change_readings.specs.declared.Place.{Place}
 use Rattle.change_readings.specs.declared.End.{End}
 use Rattle.change_readings.specs.declared.End.the-variants as end
 use Rattle.change_readings.specs.declared.Step.{Step}
-use Rattle.change_readings.specs.Records.{more, refused, openedBy, actedBy, between, RecordAsks, toRecord, RecordsBy, Records}
+use Rattle.change_readings.specs.Records.{more, refused, openedBy, actedBy, RecordAsks, toRecord, RecordsBy, Records}
 
 -- ---- answers
 
@@ -47,8 +44,8 @@ module _ (p : Place) (w : Acted) where
   pub acted-stay : w .tag ≡ tag.Stay → more (p .inside) (p .at) (w .g) ≡ actedBy p w (w .tag)
   acted-stay e = rw e
 
-  pub acted-over : w .tag ≡ tag.Over → {k : old.Gathered} → k ≡ nextStep (w .g) → {h : Gathered} → h ≡ begun k → more false (w .at) h ≡ actedBy p w (w .tag)
-  acted-over e d z = rw (e, z, d)
+  pub acted-over : w .tag ≡ tag.Over → {h : Gathered} → h ≡ nextStep (w .g) → more false (w .at) h ≡ actedBy p w (w .tag)
+  acted-over e z = rw (e, z)
 
   pub acted-out : w .tag ≡ tag.Out → refused (w .number) (w .at) (w .g) ≡ actedBy p w (w .tag)
   acted-out e = rw e
@@ -63,10 +60,9 @@ pub record OnRecords (t : Lists) (s : List ℕ) (m₀ : Mem) (g₀ : Gathered) (
   pub sized : Sized m₀ m
   pub moves : Moves t m₀ g₀ (Left t s false 0) m c (Left t s inside i)
 
-pub on-start : {t : Lists} (s : List ℕ) {m : Mem} {c : old.Gathered} → Asks t m c → {g : Gathered} → g ≡ begun c → OnRecords t s m g m g false 0
-on-start s q e =
-    rw e
-    (record {
+pub on-start : {t : Lists} (s : List ℕ) {m : Mem} {c : Gathered} → Asks t m c → OnRecords t s m c m c false 0
+on-start s q =
+    record {
       asks =
           record {
             tabled = q .tabled;
@@ -75,11 +71,11 @@ on-start s q e =
             output = q .output;
             holds = q .holds;
             within = omega arith;
-            begun = λ z. refl;
+            begun = λ z. q .begun;
           };
       sized = sized-self;
       moves = moves-self;
-    })
+    }
 
 module _ {t : Lists} {s : List ℕ} {m₀ : Mem} {g₀ : Gathered} {m : Mem} {c : Gathered} {inside : Bool} {i : ℕ} (o : OnRecords t s m₀ g₀ m c inside i) where
   pub on-sized : Sized m₀ m
@@ -103,21 +99,19 @@ module _ {t : Lists} {s : List ℕ} {m₀ : Mem} {g₀ : Gathered} {m : Mem} {c 
           moves = moves-then (o .moves) (records-is z .moves);
         }
 
-    module _ {c₀ : old.Gathered} (b : g₀ ≡ begun c₀) where
-      pub on-over : w .end ≡ end.Over → {k : old.Gathered} → k ≡ between (w .g) → Runs t m₀ m' c₀ (part.Went (w .at) k) (scanChanges t s)
-      unfolding run
-      on-over z d =
-          let e = records-is z in
-          let y = moves-then (o .moves) (e .moves) .moves (scanChanges t s) (left-all t s) in
-          record {
-            runs = λ r g p h.
-                let v = y .2 .leads r g p (subst (λ (x : Gathered). Holding t r m₀ x g p) (sym b) h) in
-                (v .0, v .1, v .3 ∙ ap (λ (sc : Scan). run t r sc (v .0) (v .1)) (y .1), rw d (subst (λ (n : ℕ). HoldsAt t r m' n (between (w .g)) (v .0) (v .1)) (e .begun) (v .2)));
-          }
+    pub on-over : w .end ≡ end.Over → Runs t m₀ m' g₀ (part.Went (w .at) (w .g)) (scanChanges t s)
+    unfolding run
+    on-over z =
+        let y = moves-then (o .moves) (records-is z) .moves (scanChanges t s) (left-all t s) in
+        record {
+          runs = λ r g p h.
+              let v = y .2 .leads r g p h in
+              (v .0, v .1, v .3 ∙ ap (λ (sc : Scan). run t r sc (v .0) (v .1)) (y .1), v .2);
+        }
 
-      pub on-out : w .end ≡ end.Out → Runs t m₀ m' c₀ (part.Out (w .number) (w .at)) (scanChanges t s)
-      on-out z =
-          let y = moves-refuses (o .moves) (records-is z) .refuses (scanChanges t s) (left-all t s) in
-          record { runs = λ r g p h. y .quits r g p (subst (λ (x : Gathered). Holding t r m₀ x g p) (sym b) h) }
+    pub on-out : w .end ≡ end.Out → Runs t m₀ m' g₀ (part.Out (w .number) (w .at)) (scanChanges t s)
+    on-out z =
+        let y = moves-refuses (o .moves) (records-is z) .refuses (scanChanges t s) (left-all t s) in
+        record { runs = λ r g p h. y .quits r g p h }
 
 pub ruleset records-laws = (on-start, on-sized, on-asks, on-less, on-more, on-over, on-out)

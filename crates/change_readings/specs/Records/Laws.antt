@@ -19,8 +19,8 @@ use Rattle.section_heads.specs.declared.Phase.the-variants.{Mark, Entries, Each
 use Rattle.section_heads.specs.declared.Said.{Said}
 use Rattle.section_heads.specs.declared.Said.the-variants as said
 use Rattle.section_heads.specs.declared.Item.{Item}
-use Rattle.turns.specs.declared.Gathered.{Gathered}
-use Rattle.vector_turns.specs.OneVector.{isAct, isWrite, begun, nextStep}
+use Rattle.gather.specs.declared.Gathered.{Gathered}
+use Rattle.vector_turns.specs.OneVector.{isAct, isWrite, nextStep}
 use Rattle.item_turns.specs.Leads.{leads-self}
 use Rattle.item_turns.specs.Turn as turn
 use Rattle.item_turns.specs.Turn.{goesOn, Behind, saidBehind, Done}
@@ -28,7 +28,7 @@ use Rattle.item_acts.specs.declared.Tag.{Tag}
 use Rattle.item_acts.specs.declared.Tag.the-variants as tag
 use Rattle.item_acts.specs.declared.Acted.{Acted}
 use Rattle.item_acts.specs.Moves.{Says, Moves, moves-from, refuses-from, counting, time-leads, time-moves, time-refuses}
-use Rattle.item_acts.specs.Acts.{ActBy, ActAsks, Stays, Closes, Refusal, ActsBy, Acts, SaidAt, toGo}
+use Rattle.item_acts.specs.Acts.{ActBy, ActAsks, Stays, Closes, ActsBy, Acts, SaidAt, toGo}
 use Rattle.item_acts.specs.Acts.Laws.{write-act, LeftBehind, stays-moves, closes-moves, done-moves, refused-refuses, on-less, stay-less}
 use Rattle.changes.specs.declared.Change.{Change}
 use Rattle.changes.specs.declared.Change.the-variants.{Time, Write, StepEnd, End, Bad}
@@ -36,7 +36,7 @@ use Rattle.changes.specs.Changes.{nextChange, changes}
 use Rattle.changes.specs.Changes.Items.{itemOf, recordItem, item-is, Left, left-some, FollowsBy, record-follows}
 use Rattle.change_readings.specs.declared.Place.{Place}
 use Rattle.change_readings.specs.declared.Step.{Step}
-use Rattle.change_readings.specs.Records.{more, overAt, refused, openedBy, actedBy, saidAt, isEnd, RecordAsks, toRecord, Goes, DoneAt, Records}
+use Rattle.change_readings.specs.Records.{more, overAt, openedBy, actedBy, saidAt, isEnd, RecordAsks, Goes, Records}
 
 -- ---- what a record says
 
@@ -262,13 +262,13 @@ module _ {t : Lists} {s : List ℕ} {m : Mem} {c : Gathered} {inside : Bool} {i 
             moves = stays-moves says f;
           }
 
-      steps-over : {g : Gathered} {p : ℕ} → Closes t m c y m' g p → Goes t s m c inside i m' (begun (nextStep g)) false p
+      steps-over : {g : Gathered} {p : ℕ} → Closes t m c y m' g p → Goes t s m c inside i m' (nextStep g) false p
       steps-over {g} {p} f =
           let o : opens (y .said) ≡ false = ap opens (f .ends) in
           let h = f .leads 0 (done 0) .leads (q .rooms) (q .state) (q .output) (q .holds) in
-          let v : Moves t m c (Left t s inside i) m' (begun (nextStep g)) (Left t s false p) =
-          subst (λ (b : Bool). Moves t m c (Left t s inside i) m' (begun (nextStep g)) (Left t s b p)) o
-          (subst (λ (j : ℕ). Moves t m c (Left t s inside i) m' (begun (nextStep g)) (Left t s (opens (y .said)) j)) (sym (f .place)) (closes-moves says f)) in
+          let v : Moves t m c (Left t s inside i) m' (nextStep g) (Left t s false p) =
+          subst (λ (b : Bool). Moves t m c (Left t s inside i) m' (nextStep g) (Left t s b p)) o
+          (subst (λ (j : ℕ). Moves t m c (Left t s inside i) m' (nextStep g) (Left t s (opens (y .said)) j)) (sym (f .place)) (closes-moves says f)) in
           let l = v .moves all some .1 in
           let d = ahead-by t s i all k (follows some) (ap isAct (f .ends)) in
           record {
@@ -315,13 +315,7 @@ module _ {t : Lists} {s : List ℕ} {m : Mem} {c : Gathered} {inside : Bool} {i 
     records-over e =
         let d : y .said ≡ said.Over = sym said-at ∙ e in
         rw at-item
-        (record {
-          records =
-              record {
-                begun = begins (ap isEnd d);
-                moves = record { moves = λ sc l. (sc, over-by t s i sc k (follows l) d, leads-self) };
-              };
-        })
+        (record { records = record { moves = λ sc l. (sc, over-by t s i sc k (follows l) d, leads-self) } })
 
 -- ---- the event of a time
 

@@ -53,7 +53,7 @@ module _ {x : VecInfo} {room events values : List ℕ} {c : Gathered} {m : Bool}
   pub event-done : not m ≡ false → {room' values' : List ℕ} → (room', values') ≡ taken (x .info) (x .flags) (x .v) (c .counts .values) room values
       → {c' : Counts} → c' ≡ counted (c .counts) 13 (x .info .bytes) 0
       → {events' : List ℕ} → events' ≡ splice events (c .counts .events) (recordBytes (Value (x .info .states) (x .reference) (c .counts .values) (x .info .bytes)))
-      → Shown x room events values c room' events' values' (Done (record { listed = c .listed; counts = c' })) always
+      → Shown x room events values c room' events' values' (Done (record { ended = c .ended; listed = c .listed; counts = c' })) always
   unfolding shownEvents shownState always eventOf
   event-done z {room'} {values'} d {c'} n {events'} a =
       record {

@@ -169,6 +169,6 @@ acts-bit {t} {m' = m'} {w = w} id v bit x p f number place wide =
 
 -- ---- the answer of an append
 
-abbrev pub wroteOf : ℕ → Put → Wrote
-wroteOf n (put.Done d) = Done (record { listed = n; counts = d })
-wroteOf n put.Full = Full
+abbrev pub wroteOf : Gathered → Put → Wrote
+wroteOf c (put.Done n) = Done (record { ended = c .ended; listed = c .listed; counts = n })
+wroteOf c put.Full = Full

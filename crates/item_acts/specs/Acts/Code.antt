@@ -1,6 +1,6 @@
 -- What the proofs of the functions search.
 -- Assumes nothing.
-use Prim.Native.Nat.{ℕ, _<_, _≤_}
+use Prim.Native.Nat.{ℕ}
 use mathlib.Core.Path.{_≡_, refl, sym, ap, subst, _∙_}
 use mathlib.Core.Bool.{Bool, true, false, cond, false≢true}
 use mathlib.Core.List.{List}
@@ -8,21 +8,18 @@ use native.Mathlib.Omega.{arith}
 use borrow.Author.Tests.{eqb-true, eqb-false}
 use lib.Dec.{eqb}
 use Rattle.tables.specs.Lists.{Lists}
-use Rattle.rules.specs.Gather.{stepEnd}
-use Rattle.gather.specs.Run.{Scan, say}
 use Rattle.gather.specs.Memory.{Mem}
-use Rattle.section_heads.specs.declared.Stand.{Stand}
 use Rattle.section_heads.specs.declared.Said.{Said}
 use Rattle.section_heads.specs.declared.Said.the-variants.{Nothing, Time, Write, StepEnd, Over, Bad}
 use Rattle.section_heads.specs.declared.Item.{Item}
-use Rattle.turns.specs.declared.Gathered.{Gathered}
+use Rattle.gather.specs.declared.Gathered.{Gathered}
 use Rattle.turns.specs.Goes.Laws.{ends-over}
-use Rattle.vector_turns.specs.OneVector.{isAct, begun, nextStep}
-use Rattle.vector_turns.specs.OneVector.Laws.{ReadyBy, Ready}
+use Rattle.vector_turns.specs.OneVector.{isAct}
+use Rattle.vector_turns.specs.OneVector.Laws.{ReadyBy}
 use Rattle.item_turns.specs.declared.Ended.{Ended}
 use Rattle.item_turns.specs.declared.Ended.the-variants.{On, Stay, Full}
 use Rattle.item_turns.specs.declared.Went.{Went}
-use Rattle.item_turns.specs.Leads.{Leads, goes-leads}
+use Rattle.item_turns.specs.Leads.{goes-leads}
 use Rattle.item_turns.specs.Turn.{TurnAsks, TurnsBy, Turns}
 use Rattle.item_acts.specs.declared.Stage.{Stage}
 use Rattle.item_acts.specs.declared.Stage.the-variants as stage

@@ -1,6 +1,6 @@
 -- What an item that is done leaves, for any scan whose items are said as they stand: the moves of a reading.
 -- Assumes nothing.
-use Prim.Native.Nat.{ℕ, _+_, _*_, _<_, _≤_}
+use Prim.Native.Nat.{ℕ, _<_, _≤_}
 use mathlib.Core.Path.{_≡_, refl, sym, ap, subst, _∙_}
 use mathlib.Core.Bool.{Bool, true, false, false≢true}
 use mathlib.Core.List.{List}
@@ -9,17 +9,16 @@ use Rattle.tables.specs.Lists.{Lists}
 use Rattle.rules.specs.Gather.{State, stepEnd}
 use Rattle.records.specs.Out.{Rooms, Out}
 use Rattle.gather.specs.Run.{Scan, say, fault, run}
-use Rattle.gather.specs.Memory.{Mem}
+use Rattle.gather.specs.Memory.{Holds, Mem}
 use Rattle.section_heads.specs.declared.Said.{Said}
 use Rattle.section_heads.specs.declared.Said.the-variants.{Nothing, Time, Write, StepEnd, Over, Bad}
 use Rattle.section_heads.specs.declared.Item.{Item}
-use Rattle.turns.specs.declared.Gathered.{Gathered}
-use Rattle.turns.specs.Goes.{Holding}
-use Rattle.vector_turns.specs.OneVector.{isAct, isWrite, actOf, begun, nextStep}
+use Rattle.gather.specs.declared.Gathered.{Gathered}
+use Rattle.vector_turns.specs.OneVector.{isAct, isWrite, actOf, nextStep}
 use Rattle.vector_turns.specs.OneVector.Laws.{waits, toTurn}
 use Rattle.item_turns.specs.declared.Went.{Went}
 use Rattle.item_turns.specs.Leads.{Leads, Quits}
-use Rattle.item_turns.specs.Turn.{Behind, saidBehind, Done, Waits}
+use Rattle.item_turns.specs.Turn.{saidBehind, Done}
 use Rattle.item_acts.specs.Moves.{Says, Moves, Refuses}
 use Rattle.item_acts.specs.Acts as acts
 use Rattle.item_acts.specs.Acts.{Stays, Closes, Refusal, SaysBy, SaidAt, toGo}
@@ -62,13 +61,13 @@ module _ {t : Lists} {m : Mem} {c : Gathered} {x : Item} {L N : Scan → Type 0}
             );
       }
 
-  pub closes-moves : {m' : Mem} {c' : Gathered} {p : ℕ} → Closes t m c x m' c' p → Moves t m c L m' (begun (nextStep c')) N
+  pub closes-moves : {m' : Mem} {c' : Gathered} {p : ℕ} → Closes t m c x m' c' p → Moves t m c L m' (nextStep c') N
   closes-moves {m'} {c'} f =
       record {
         moves = λ sc l.
             let y = acting says (ap isAct (f .ends)) sc l in
             let k : sc ≡ say stepEnd (x .at) (y .1 .rest) = y .1 .scans ∙ ap (λ (a : Said). say (actOf a (y .0)) (x .at) (y .1 .rest)) (f .ends) in
-            (y .1 .rest, y .1 .left, subst (λ (v : Scan). Leads t m c v m' (begun (nextStep c')) (y .1 .rest)) (sym k) (f .leads (x .at) (y .1 .rest)));
+            (y .1 .rest, y .1 .left, subst (λ (v : Scan). Leads t m c v m' (nextStep c') (y .1 .rest)) (sym k) (f .leads (x .at) (y .1 .rest)));
       }
 
   module _ {s : List ℕ} {m' : Mem} {w : Went} (f : Done t s m c x m' w) {N' : Scan → Type 0} where
@@ -96,13 +95,13 @@ module _ {t : Lists} {m : Mem} {c : Gathered} {x : Item} {L N : Scan → Type 0}
 -- ---- there is less to do
 
 -- no more vectors are listed than there are
-few-turns : {t : Lists} {r : Rooms} {m : Mem} {c : Gathered} {g : State} {o : Out} → Holding t r m c g o → (b : Bool) → toTurn c b ≤ 32767
+few-turns : {t : Lists} {r : Rooms} {m : Mem} {c : Gathered} {g : State} {o : Out} → Holds t r m c g o → (b : Bool) → toTurn c b ≤ 32767
 unfolding toTurn
 few-turns h true = omega (arith, h .stands .listed .most, h .stands .laid .few)
 few-turns h false = omega (arith, h .stands .listed .most, h .stands .laid .few)
 
 -- further on
-pub on-less : {t : Lists} {r : Rooms} {m' : Mem} {c' : Gathered} {g : State} {o : Out} → Holding t r m' c' g o → {left' left : ℕ} → left' < left → (a' : Said) (room : List ℕ) (c : Gathered) (a : Said)
+pub on-less : {t : Lists} {r : Rooms} {m' : Mem} {c' : Gathered} {g : State} {o : Out} → Holds t r m' c' g o → {left' left : ℕ} → left' < left → (a' : Said) (room : List ℕ) (c : Gathered) (a : Said)
     → toGo t left' (m' .room) c' a' < toGo t left room c a
 unfolding toGo
 on-less {t} {m' = m'} h l a' room c a = omega (arith, l, few-turns h (waits t (m' .room) a'))

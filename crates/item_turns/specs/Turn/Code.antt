@@ -1,12 +1,12 @@
 -- What the proofs of the functions search.
 -- Assumes nothing.
 use Prim.Native.Nat.{ℕ, _+_, _-_, _^_, _<_, _≤_}
-use mathlib.Core.Path.{_≡_, sym, subst, _∙_}
+use mathlib.Core.Path.{_≡_, _∙_}
 use mathlib.Core.Bool.{Bool, true, false, not}
 use mathlib.Core.List.{List, [], _∷_}
 use native.Mathlib.Omega.{arith}
 use borrow.Author.Tests.{not-true, not-false}
-use lib.ListN.{length, getD}
+use lib.ListN.{getD}
 use Rattle.tables.specs.Lists.{Lists, nth}
 use Rattle.records.specs.declared.Counts.{Counts}
 use Rattle.records.specs.declared.Put.{Put}
@@ -19,7 +19,7 @@ use Rattle.section_heads.specs.declared.Phase.the-variants.{Listed}
 use Rattle.section_heads.specs.declared.Said.{Said}
 use Rattle.section_heads.specs.declared.Said.the-variants.{Write}
 use Rattle.section_heads.specs.declared.Item.{Item}
-use Rattle.turns.specs.declared.Gathered.{Gathered}
+use Rattle.gather.specs.declared.Gathered.{Gathered}
 use Rattle.turns.specs.Turns as turn
 use Rattle.turns.specs.Turns.{showVector}
 use Rattle.plain_writes.specs.Plain.{AloneAt}

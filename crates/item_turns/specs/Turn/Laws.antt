@@ -2,11 +2,9 @@
 -- Assumes nothing.
 use Prim.Native.Nat.{ℕ, _+_, _-_, _<_, _≤_}
 use mathlib.Core.Path.{_≡_, refl, sym, ap, subst, _∙_}
-use mathlib.Core.Bool.{Bool, true, false, not, true≢false, false≢true}
-use mathlib.Core.List.{List, [], _∷_}
+use mathlib.Core.Bool.{Bool, true, false, not}
+use mathlib.Core.List.{List}
 use native.Mathlib.Omega.{arith}
-use borrow.Author.Tests.{not-false, not-true, eqb-true}
-use lib.Dec.{eqb}
 use lib.ListN.{length, getD}
 use Rattle.tables.specs.Lists.{Lists, nth, signals}
 use Rattle.tables.specs.Layout.{layoutOf}
@@ -19,31 +17,30 @@ use Rattle.vecmarks.specs.declared.VecBufferInfo.{VecBufferInfo}
 use Rattle.vecmarks.specs.Info.{infoAt, isQuiet}
 use Rattle.vecbuffer.specs.Stands.{flagsAt}
 use Rattle.gather.specs.declared.VecInfo.{VecInfo}
-use Rattle.gather.specs.Memory.{Mem, memOf, Tabled}
+use Rattle.gather.specs.Memory.{HoldsAt, Holds, Mem, memOf, Tabled}
 use Rattle.gather.specs.Run.{Scan, say}
 use Rattle.gather.specs.Makes.{Seen, vecInfo}
 use Rattle.section_heads.specs.declared.Said.{Said}
 use Rattle.section_heads.specs.declared.Phase.the-variants.{Listed}
 use Rattle.section_heads.specs.declared.Said.the-variants.{Write}
 use Rattle.section_heads.specs.declared.Item.{Item}
-use Rattle.turns.specs.declared.Gathered.{Gathered}
+use Rattle.gather.specs.declared.Gathered.{Gathered}
 use Rattle.turns.specs.declared.Turned.{Turned}
 use Rattle.turns.specs.Turns as turn
 use Rattle.turns.specs.Turns.{Made, mk, showVector, Showing}
-use Rattle.turns.specs.Goes.{Holding, leftOf, After, Goes, Stops}
+use Rattle.turns.specs.Goes.{leftOf, After, Goes, Stops}
 use Rattle.turns.specs.Goes.Laws.{after-quiet, after-shown, after-full, asks-show, asks-plain, plain-goes, plain-stops}
-use Rattle.plain_writes.specs.Plain.{AloneAt}
-use Rattle.vector_turns.specs.OneVector.{BitIn, isWrite, actOf, forVector, vectorOf, Named, Concerned, Turning, turned}
-use Rattle.vector_turns.specs.OneVector.Laws.{Ready, ReadyBy, ready-named, its-vector, ready-known, ready-concerned, ready-looks, ready-seen, ready-turning, ready-after, waits, toTurn, listedAs, ready-over, ready-begun, ready-quiet, ready-shown, ToBit, ready-bit, ready-plain, plain-number}
+use Rattle.vector_turns.specs.OneVector.{BitIn, isWrite, actOf, forVector, vectorOf, Named, Turning, turned}
+use Rattle.vector_turns.specs.OneVector.Laws.{ReadyBy, ready-named, ready-concerned, ready-looks, ready-seen, ready-turning, ready-after, waits, toTurn, listedAs, ready-over, ready-begun, ready-quiet, ready-shown, ToBit, ready-bit, ready-plain, plain-number}
 use Rattle.along.specs.declared.Reached.{Reached}
 use Rattle.along.specs.Follows as along
-use Rattle.along.specs.Follows.{Along, Followed, AlongAsks, Ran, said}
+use Rattle.along.specs.Follows.{Along, Followed, Ran, said}
 use Rattle.along.specs.Follows.Laws.{came, asks-along}
-use Rattle.item_turns.specs.declared.Ended.the-variants.{On, Stay, Full}
+use Rattle.item_turns.specs.declared.Ended.the-variants.{Stay, Full}
 use Rattle.item_turns.specs.declared.Went.{Went}
-use Rattle.item_turns.specs.Leads.{Leads, leads-self, leads-then, Quits, goes-leads, stops-quits}
+use Rattle.item_turns.specs.Leads.{Leads, leads-then, goes-leads, stops-quits}
 use Rattle.item_turns.specs.Turn as item
-use Rattle.item_turns.specs.Turn.{goesOn, stays, Looking, infoOf, showDue, FollowAsks, GoAsks, Gone, TurnAsks, VectorAsks, Behind, saidBehind, Done, Waits, Fills, Turns, PlainAsks, PlainTurns}
+use Rattle.item_turns.specs.Turn.{goesOn, stays, Looking, infoOf, showDue, FollowAsks, GoAsks, Gone, TurnAsks, VectorAsks, saidBehind, Done, Waits, Turns, PlainAsks, PlainTurns}
 
 -- ---- along a vector
 
@@ -58,8 +55,8 @@ module _ {t : Lists} (k : Tabled t) {v : ℕ} (known : v < length (t .mins)) {s 
   along-leads rest =
       record {
         leads = λ r g o h.
-            let y = came k known (rw begun at h) quiet inside a in
-            (y .state, y .output, rw begun (y .holds), y .left rest);
+            let y = came k known (subst (λ (n : ℕ). HoldsAt t r (memOf room list events values) n c g o) begun h) quiet inside a in
+            (y .state, y .output, subst (λ (n : ℕ). HoldsAt t r (memOf room' list events values) n c (y .state) (y .output)) (sym begun) (y .holds), y .left rest);
       }
 
 -- ---- a turn of a vector
@@ -85,14 +82,14 @@ module _ {t : Lists} {room list events values : List ℕ} {c : Gathered} {x : It
     turning = ready-turning k (q .asks .holds) (q .asks .ready) (q .vector) seen
 
     module _ {room₁ list₁ : List ℕ} {w : Turned} (e : mk room₁ list₁ w ≡ turned (t .maxs) i c (x .said) room list) where
-      after : (r : Rooms) (g : State) (o : Out) → Holding t r (memOf room list events values) c g o → (pos : ℕ) → After t r v (actOf a pos) (memOf room₁ list₁ events values) c w g o
+      after : (r : Rooms) (g : State) (o : Out) → Holds t r (memOf room list events values) c g o → (pos : ℕ) → After t r v (actOf a pos) (memOf room₁ list₁ events values) c w g o
       after r g o h pos = ready-after k h (q .asks .ready) (q .vector) seen e pos
 
       pub showing : Showing room₁ events values (c .counts) i
       showing = asks-show seen (after (q .asks .rooms) (q .asks .state) (q .asks .output) (q .asks .holds) 0 .holds)
 
       -- the event that is due, where one is
-      module _ (pos : ℕ) {r : Rooms} {g : State} {o : Out} (h : Holding t r (memOf room list events values) c g o) where
+      module _ (pos : ℕ) {r : Rooms} {g : State} {o : Out} (h : Holds t r (memOf room list events values) c g o) where
         abbrev MadeBy : Made → Type 0
         MadeBy (turn.mk room₂ events₂ values₂ (put.Done n)) = Goes t r (actOf a pos) (memOf room₂ list₁ events₂ values₂) (listedAs w n) (w .over) g o
         MadeBy (turn.mk room₂ events₂ values₂ put.Full) = Stops t r (actOf a pos) g o
@@ -132,7 +129,7 @@ module _ {t : Lists} {room list events values : List ℕ} {c : Gathered} {x : It
           made-is : showDue (w .due) i (c .counts) room₁ events values ≡ turn.mk room₂ events₂ values₂ (put.Done n)
           made-is = sym f ∙ ap (turn.mk room₂ events₂ values₂) d
 
-          goes : (pos : ℕ) (r : Rooms) (g : State) (o : Out) → Holding t r (memOf room list events values) c g o → Goes t r (actOf a pos) (memOf room₂ list₁ events₂ values₂) (listedAs w n) (w .over) g o
+          goes : (pos : ℕ) (r : Rooms) (g : State) (o : Out) → Holds t r (memOf room list events values) c g o → Goes t r (actOf a pos) (memOf room₂ list₁ events₂ values₂) (listedAs w n) (w .over) g o
           goes pos r g o h = subst (MadeBy pos h) made-is (made-by pos h (w .due) refl)
 
           leads : (pos p : ℕ) (rest : Scan) → Leads t (memOf room list events values) c (say (actOf a pos) p rest) (memOf room₂ list₁ events₂ values₂) (listedAs w n) (leftOf (w .over) (actOf a pos) p rest)

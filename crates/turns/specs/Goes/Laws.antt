@@ -29,23 +29,22 @@ use Rattle.vecbuffer.specs.Changes.{updated}
 use Rattle.vecbuffer.specs.Stands.{storing, clearing}
 use Rattle.vecbuffer.specs.Stands.Order.{none-listed}
 use Rattle.vecbuffer.specs.Stands.Laws.{asks-flags, asks-vector, asks-known, asks-update, second-is, full-is, has-is, stands-update, listed-at, stands-unlisted, stands-over}
-use Rattle.gather.specs.declared.Gathered as old
 use Rattle.gather.specs.declared.VecInfo.{VecInfo}
 use Rattle.gather.specs.Run.{gathers, alone, ofVector, eventsOf, Scan, say, out, fitted, acted, after, run}
-use Rattle.gather.specs.Memory.{Mem, memOf, Tabled, HoldsAt}
+use Rattle.gather.specs.Memory.{Holds, Mem, memOf, Tabled, HoldsAt}
 use Rattle.gather.specs.Memory.Laws.{clean-updated, clean-unlisted}
 use Rattle.gather.specs.Makes.{Seen, Shown, vecInfo, eventOf, shownEvents, shownState, always}
 use Rattle.gather.specs.Makes.Laws.{events-append, events-fires, wroteOf}
 use Rattle.gather.specs.Makes.Code.{event-full, event-done}
 use Rattle.gather.specs.Writes.{ask-kinds, ask-refs}
-use Rattle.turns.specs.declared.Gathered.{Gathered}
+use Rattle.gather.specs.declared.Gathered.{Gathered}
 use Rattle.turns.specs.declared.Turned.{Turned}
 use Rattle.turns.specs.Turns as turn
 use Rattle.turns.specs.Turns.{storedTurn, turnWrite, turnEnd, showVector}
 use Rattle.plain_writes.specs.Plain.{AloneAt}
 use Rattle.turns.specs.Parts.{Leaves, Closes, firing, without}
 use Rattle.turns.specs.Parts.Laws.{clash-leaves, store-closes, plain-closes, end-leaves, end-closes}
-use Rattle.turns.specs.Goes.{Holding, leftOf, After, Goes, Stops}
+use Rattle.turns.specs.Goes.{leftOf, After, Goes, Stops}
 
 -- ---- the run
 
@@ -72,7 +71,7 @@ module _ (t : Lists) (r : Rooms) {a : Act} {g : State} {hs : List Happening} {g�
 
 -- ---- a write to a bit
 
-module _ {t : Lists} {v : ℕ} {x : VecInfo} (s : Seen t v x) {r : Rooms} {room list events values : List ℕ} {c : Gathered} {g : State} {o : Out} (h : Holding t r (memOf room list events values) c g o)
+module _ {t : Lists} {v : ℕ} {x : VecInfo} (s : Seen t v x) {r : Rooms} {room list events values : List ℕ} {c : Gathered} {g : State} {o : Out} (h : Holds t r (memOf room list events values) c g o)
     (begun : c .ended ≡ 0) (id bit y pos : ℕ) (number : nth (t .vecs) id ≡ suc v) (place : bit ≡ getD (t .maxs) v 0 - id) (wide : width (gathers t) v ≡ layoutOf t .width v)
     (inside : bit < layoutOf t .width v) (small : y < 2 ^ bits (layoutOf t .state v)) where
   abbrev w : Write
@@ -125,10 +124,10 @@ module _ {t : Lists} {v : ℕ} {x : VecInfo} (s : Seen t v x) {r : Rooms} {room 
       at : change.mk room′ list′ k ≡ updated (vecInfo t v .info) (vecInfo t v .flags) v (c .listed) bit y room list
       at = rw (s .is) at e
 
-      start : HoldsAt t r (memOf room list events values) 0 (record { listed = c .listed; counts = c .counts }) g o
-      start = rw begun at h
+      start : HoldsAt t r (memOf room list events values) 0 c g o
+      start = subst (λ (n : ℕ). HoldsAt t r (memOf room list events values) n c g o) begun h
 
-      now : Holding t r (memOf room′ list′ events values) (record { ended = c .ended; listed = k; counts = c .counts }) (storing g v w) o
+      now : Holds t r (memOf room′ list′ events values) (record { ended = c .ended; listed = k; counts = c .counts }) (storing g v w) o
       now =
           rw begun
           (record {
@@ -150,7 +149,7 @@ module _ {t : Lists} {v : ℕ} {x : VecInfo} (s : Seen t v x) {r : Rooms} {room 
 
 -- ---- the step's end of one vector
 
-module _ {t : Lists} {v : ℕ} {x : VecInfo} (s : Seen t v x) {r : Rooms} {room list events values : List ℕ} {c : Gathered} {g : State} {o : Out} (h : Holding t r (memOf room list events values) c g o)
+module _ {t : Lists} {v : ℕ} {x : VecInfo} (s : Seen t v x) {r : Rooms} {room list events values : List ℕ} {c : Gathered} {g : State} {o : Out} (h : Holds t r (memOf room list events values) c g o)
     (first : listedIn list (c .ended) ≡ v) (more : c .ended < c .listed) where
   abbrev AfterEnd : List ℕ × Turned → Type 0
   AfterEnd (room′, u) = After t r v stepEnd (memOf room′ list events values) c u g o
@@ -175,7 +174,7 @@ module _ {t : Lists} {v : ℕ} {x : VecInfo} (s : Seen t v x) {r : Rooms} {room 
       due-is = rw (s .is) (has-is (stands-unlisted (h .stands) is) (s .known))
 
 -- when it has come to all, the step is over
-pub ends-over : {t : Lists} {r : Rooms} {m : Mem} {c : Gathered} {g : State} {o : Out} → Holding t r m c g o → c .listed ≤ c .ended → Goes t r stepEnd m (record { ended = 0; listed = 0; counts = c .counts }) true g o
+pub ends-over : {t : Lists} {r : Rooms} {m : Mem} {c : Gathered} {g : State} {o : Out} → Holds t r m c g o → c .listed ≤ c .ended → Goes t r stepEnd m (record { ended = 0; listed = 0; counts = c .counts }) true g o
 unfolding eventsOf appendAll fitted
 ends-over {t} {r} {g = g} {o} h all =
     record {
@@ -188,18 +187,15 @@ ends-over {t} {r} {g = g} {o} h all =
 -- ---- the event that is due
 
 -- what `show` leaves
-module _ (x : VecInfo) (room events values : List ℕ) (k : ℕ) (n : Counts) where
-  abbrev c : old.Gathered
-  c = record { listed = k; counts = n }
-
+module _ (x : VecInfo) (room events values : List ℕ) (c : Gathered) where
   abbrev ShownIn : turn.Made → Type 0
-  ShownIn (turn.mk room′ events′ values′ p) = Shown x room events values c room′ events′ values′ (wroteOf k p) always
+  ShownIn (turn.mk room′ events′ values′ p) = Shown x room events values c room′ events′ values′ (wroteOf c p) always
 
-  pub shown-from : {room′ events′ values′ : List ℕ} {p : Put} → turn.mk room′ events′ values′ p ≡ showVector x n room events values → Shown x room events values c room′ events′ values′ (wroteOf k p) always
+  pub shown-from : {room′ events′ values′ : List ℕ} {p : Put} → turn.mk room′ events′ values′ p ≡ showVector x (c .counts) room events values → Shown x room events values c room′ events′ values′ (wroteOf c p) always
   unfolding showVector
   shown-from e =
       subst ShownIn (sym e)
-      (cond-ind (roomFor (length events) (length values) n 13 (x .info .bytes)) _ (turn.mk room events values Full) ShownIn (λ z. event-done (sym z) refl refl refl refl)
+      (cond-ind (roomFor (length events) (length values) (c .counts) 13 (x .info .bytes)) _ (turn.mk room events values Full) ShownIn (λ z. event-done (sym z) refl refl refl refl)
       (λ z. event-full (sym z) refl))
 
 module _ {t : Lists} {r : Rooms} {v : ℕ} {a : Act} {room list events values : List ℕ} {c : Gathered} {w : Turned} {g : State} {o : Out} (f : After t r v a (memOf room list events values) c w g o) where
@@ -214,7 +210,7 @@ module _ {t : Lists} {r : Rooms} {v : ℕ} {a : Act} {room list events values : 
   due-left z e p rest = f .left p rest ∙ rw (z, e)
 
   due-goes : w .due ≡ true → {m : Mem} {n : Counts}
-      → (o′ : Out) × (appendAll r (eventOf t v (f .state .vecs v) ∷ []) (some o) ≡ some o′) × Holding t r m (record { ended = w .ended; listed = w .listed; counts = n }) (clearing (f .state) v) o′
+      → (o′ : Out) × (appendAll r (eventOf t v (f .state .vecs v) ∷ []) (some o) ≡ some o′) × Holds t r m (record { ended = w .ended; listed = w .listed; counts = n }) (clearing (f .state) v) o′
       → Goes t r a m (record { ended = w .ended; listed = w .listed; counts = n }) (w .over) g o
   due-goes z k = record { state = clearing (f .state) v; output = k .0; holds = k .2; left = due-left z (k .1) }
 
@@ -226,16 +222,16 @@ module _ {t : Lists} {r : Rooms} {v : ℕ} {a : Act} {room list events values : 
     -- it fits
     pub after-shown : {n : Counts} → q ≡ Done n → Goes t r a (memOf room′ list events′ values′) (record { ended = w .ended; listed = w .listed; counts = n }) (w .over) g o
     unfolding shownEvents shownState always
-    after-shown {n} d = due-goes z ((rw d at (shown-from x room events values (w .listed) (c .counts) e)) .shown t v list (w .ended) s .makes r (f .state) o (f .holds))
+    after-shown {n} d = due-goes z ((rw d at (shown-from x room events values (record { ended = w .ended; listed = w .listed; counts = c .counts }) e)) .shown t v list (w .ended) s .makes r (f .state) o (f .holds))
 
     -- or not
     pub after-full : q ≡ Full → Stops t r a g o
     unfolding shownEvents always
-    after-full d = record { stops = due-stops z ((rw d at (shown-from x room events values (w .listed) (c .counts) e)) .shown t v list (w .ended) s .makes r (f .state) o (f .holds)) }
+    after-full d = record { stops = due-stops z ((rw d at (shown-from x room events values (record { ended = w .ended; listed = w .listed; counts = c .counts }) e)) .shown t v list (w .ended) s .makes r (f .state) o (f .holds)) }
 
 -- ---- a signal outside vectors
 
-module _ {t : Lists} {r : Rooms} {room list events values : List ℕ} {c : Gathered} {g : State} {o : Out} (h : Holding t r (memOf room list events values) c g o)
+module _ {t : Lists} {r : Rooms} {room list events values : List ℕ} {c : Gathered} {g : State} {o : Out} (h : Holds t r (memOf room list events values) c g o)
     (id y pos : ℕ) (number : nth (t .vecs) id ≡ 0) {events′ values′ : List ℕ} {q : Put} (f : Appends (alone (nth (t .kinds) id) (nth (t .refs) id) y ∷ []) events values (c .counts) events′ values′ q) where
   left-plain : (p : ℕ) (rest : Scan) → run t r (say (write id y pos) p rest) g o ≡ fitted p (appendAll r (alone (nth (t .kinds) id) (nth (t .refs) id) y ∷ []) (some o)) out (λ o′. run t r rest g o′)
   unfolding eventsOf gathers
@@ -258,7 +254,7 @@ module _ {t : Lists} {r : Rooms} {room list events values : List ℕ} {c : Gathe
 
 -- ---- what the turns ask
 
-module _ {t : Lists} {v : ℕ} {x : VecInfo} (s : Seen t v x) {r : Rooms} {room list events values : List ℕ} {c : Gathered} {g : State} {o : Out} (h : Holding t r (memOf room list events values) c g o) where
+module _ {t : Lists} {v : ℕ} {x : VecInfo} (s : Seen t v x) {r : Rooms} {room list events values : List ℕ} {c : Gathered} {g : State} {o : Out} (h : Holds t r (memOf room list events values) c g o) where
   pub asks-write : c .ended ≡ 0 → {bit y : ℕ} → bit < layoutOf t .width v → y < 2 ^ bits (layoutOf t .state v) → turn.Writing room list x c bit y
   asks-write begun inside small = record { updates = rw (s .is) (asks-update ((rw begun at h) .stands) (s .known) inside small) }
 
@@ -275,7 +271,7 @@ module _ {t : Lists} {v : ℕ} {x : VecInfo} (s : Seen t v x) {r : Rooms} {room 
         in-values = h .written .in-values;
       }
 
-pub asks-plain : {t : Lists} → Tabled t → {r : Rooms} {m : Mem} {c : Gathered} {g : State} {o : Out} → Holding t r m c g o → {id y : ℕ} → 1 ≤ id → id ≤ signals t → Suits (nth (t .kinds) id) y
+pub asks-plain : {t : Lists} → Tabled t → {r : Rooms} {m : Mem} {c : Gathered} {g : State} {o : Out} → Holds t r m c g o → {id y : ℕ} → 1 ≤ id → id ≤ signals t → Suits (nth (t .kinds) id) y
     → AloneAt (t .kinds) (t .refs) (m .events) (m .values) (c .counts) id y
 asks-plain k h first most suits =
     record {
@@ -306,12 +302,12 @@ module _ (x : VecInfo) (c : Gathered) (bit y : ℕ) (room list : List ℕ) where
       (storedTurn x c (updated (x .info) (x .flags) (x .v) (c .listed) bit y room list)) Waits (λ z _. z) (λ _. made _))
 
 -- after the event it does not
-module _ {t : Lists} {v : ℕ} {x : VecInfo} (s : Seen t v x) {r : Rooms} {room list events values : List ℕ} {c : Gathered} {g : State} {o : Out} (h : Holding t r (memOf room list events values) c g o) where
+module _ {t : Lists} {v : ℕ} {x : VecInfo} (s : Seen t v x) {r : Rooms} {room list events values : List ℕ} {c : Gathered} {g : State} {o : Out} (h : Holds t r (memOf room list events values) c g o) where
   pub shown-settles : {room′ events′ values′ : List ℕ} {q : Put} → turn.mk room′ events′ values′ q ≡ showVector x (c .counts) room events values → {n : Counts} → q ≡ Done n
       → (bit y : ℕ) → bit < layoutOf t .width v → isSecond (x .info) bit y room′ ≡ false
   unfolding shownState always clearing
   shown-settles e d bit y inside =
-      let k = (rw d at (shown-from x room events values (c .listed) (c .counts) e)) .shown t v list (c .ended) s .makes r g o h in
+      let k = (rw d at (shown-from x room events values c e)) .shown t v list (c .ended) s .makes r g o h in
       rw (s .is) (second-is (k .2 .stands) (s .known) (record { bit = bit; value = y; pos = 0 }) inside ∙ (rw (with-same (g .vecs) v (cleared (g .vecs v))) (cleared-clash (g .vecs v) _)))
 
 -- a step's end of one vector leaves one less

@@ -19,7 +19,7 @@ use Rattle.vecbuffer.specs.Changes as change
 use Rattle.vecbuffer.specs.Changes.{updated, Updates, taken, Takes}
 use Rattle.vecbuffer.specs.Changes.Laws.{after-mark}
 use Rattle.gather.specs.declared.VecInfo.{VecInfo}
-use Rattle.turns.specs.declared.Gathered.{Gathered}
+use Rattle.gather.specs.declared.Gathered.{Gathered}
 use Rattle.turns.specs.Turns.{Writing, storedTurn, turnWrite, turnEnd, Unlists, showVector, Showing}
 use Rattle.turns.specs.Turns as turn
 

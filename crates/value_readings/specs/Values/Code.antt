@@ -1,28 +1,26 @@
 -- What the proof of the loop searches.
 -- Assumes nothing.
 use Prim.Native.Nat.{ℕ, _<_, _≤_}
-use mathlib.Core.Path.{_≡_, refl, sym, ap, subst, _∙_}
+use mathlib.Core.Path.{_≡_, refl, sym, subst, _∙_}
 use mathlib.Core.List.{List}
 use native.Mathlib.Omega.{arith}
 use lib.ListN.{length}
 use Rattle.tables.specs.Lists.{Lists}
-use Rattle.gather.specs.declared.Gathered as between
 use Rattle.gather.specs.declared.Part.the-variants as part
-use Rattle.gather.specs.Memory.{Mem}
-use Rattle.gather.specs.Memory.{Sized, sized-self}
+use Rattle.gather.specs.Memory.{Mem, Sized, sized-self}
 use Rattle.section_heads.specs.declared.How.{How}
 use Rattle.section_heads.specs.declared.Phase.{Phase}
 use Rattle.section_heads.specs.declared.Stand.{Stand}
 use Rattle.section_heads.specs.declared.Item.{Item}
 use Rattle.section_heads.specs.Heads.{standing}
 use Rattle.sections.specs.Item.{afterValues, valueItem}
-use Rattle.sections.specs.Item.Scans.{toRead, Left}
-use Rattle.turns.specs.declared.Gathered.{Gathered}
-use Rattle.vector_turns.specs.OneVector.{begun, nextStep}
+use Rattle.sections.specs.Item.Scans.{Left}
+use Rattle.gather.specs.declared.Gathered.{Gathered}
+use Rattle.vector_turns.specs.OneVector.{nextStep}
 use Rattle.item_acts.specs.declared.Tag.{Tag}
 use Rattle.item_acts.specs.declared.Tag.the-variants as tag
 use Rattle.item_acts.specs.declared.Acted.{Acted}
-use Rattle.item_acts.specs.Moves.{Moves, Refuses, moves-self, moves-then, moves-refuses}
+use Rattle.item_acts.specs.Moves.{Refuses, moves-self, moves-then, moves-refuses}
 use Rattle.item_acts.specs.Acts.{ActAsks, ActsBy, Acts}
 use Rattle.value_readings.specs.Values.{PlaceAsks, toValue, Goes, ValuesAsk, behindOf, Values}
 use Rattle.value_readings.specs.Values.Laws.{asks-act, done-on, stay-on, closes-on, refusal-out}
@@ -54,10 +52,9 @@ pub record OnValues (t : Lists) (s : List ℕ) (p : Phase) (u i₀ : ℕ) (m₀ 
   pub sized : Sized m₀ m
   pub goes : Goes t s m₀ g₀ (standing p 0 u) i₀ m c (standing p id u) at
 
-pub on-start : {t : Lists} {s : List ℕ} {m : Mem} {c : between.Gathered} {x : Item} → ValuesAsk t s m c x → {g : Gathered} → g ≡ begun c → OnValues t s (x .then .phase) (x .then .time) (x .at) m g m g 0 (x .at)
-on-start q e =
-    rw e
-    (record {
+pub on-start : {t : Lists} {s : List ℕ} {m : Mem} {c : Gathered} {x : Item} → ValuesAsk t s m c x → OnValues t s (x .then .phase) (x .then .time) (x .at) m c m c 0 (x .at)
+on-start q =
+    record {
       asks =
           record {
             tabled = q .asks .tabled;
@@ -68,11 +65,11 @@ on-start q e =
             values = q .values;
             stood = omega arith;
             inside = q .inside;
-            begun = λ z. refl;
+            begun = λ z. q .asks .begun;
           };
       sized = sized-self;
       goes = record { ahead = omega arith; moves = λ how. moves-self };
-    })
+    }
 
 module _ {t : Lists} {s : List ℕ} {p : Phase} {u i₀ : ℕ} {m₀ : Mem} {g₀ : Gathered} {m : Mem} {c : Gathered} {id at : ℕ} (o : OnValues t s p u i₀ m₀ g₀ m c id at) where
   pub on-sized : Sized m₀ m
@@ -105,32 +102,26 @@ module _ {t : Lists} {s : List ℕ} {p : Phase} {u i₀ : ℕ} {m₀ : Mem} {g�
           let k = stay-on (o .asks) (acts-is z) in
           record { asks = k .1; sized = sizes l; goes = goes-then (o .goes) (k .0) }
 
-      over-goes : w .tag ≡ tag.Over → Goes t s m₀ g₀ (standing p 0 u) i₀ m' (begun (nextStep (w .g))) (standing (afterValues p) 0 u) (w .at)
+      over-goes : w .tag ≡ tag.Over → Goes t s m₀ g₀ (standing p 0 u) i₀ m' (nextStep (w .g)) (standing (afterValues p) 0 u) (w .at)
       over-goes z = goes-then (o .goes) (closes-on (o .asks) (acts-is z))
 
       out-refuses : w .tag ≡ tag.Out → (how : How) → Refuses t m₀ g₀ (Left t how s (standing p 0 u) i₀) (w .number) (w .at)
       out-refuses z how = moves-refuses (o .goes .moves how) (refusal-out (o .asks) (acts-is z) how)
 
 -- from the item that said the time
-module _ {t : Lists} {s : List ℕ} {m₀ : Mem} {c₀ : between.Gathered} {x : Item} (q : ValuesAsk t s m₀ c₀ x) {g₀ : Gathered} (b : g₀ ≡ begun c₀) {m : Mem} {c : Gathered} {id at : ℕ}
-    (o : OnValues t s (x .then .phase) (x .then .time) (x .at) m₀ g₀ m c id at) {y : Stand} (e : y ≡ standing (x .then .phase) id (x .then .time)) {m' : Mem} {w : Acted}
+module _ {t : Lists} {s : List ℕ} {m₀ : Mem} {c₀ : Gathered} {x : Item} (q : ValuesAsk t s m₀ c₀ x) {m : Mem} {c : Gathered} {id at : ℕ}
+    (o : OnValues t s (x .then .phase) (x .then .time) (x .at) m₀ c₀ m c id at) {y : Stand} (e : y ≡ standing (x .then .phase) id (x .then .time)) {m' : Mem} {w : Acted}
     (f : Acts t s m c (valueItem (t .kinds) s y at) m' w) where
   first : standing (x .then .phase) 0 (x .then .time) ≡ x .then
   first = λ j. record { phase = x .then .phase; id = sym (q .first) j; time = x .then .time }
 
-  pub on-over : w .tag ≡ tag.Over → {k : between.Gathered} → k ≡ nextStep (w .g) → Values t s m₀ c₀ x m' (part.Went (w .at) k)
+  pub on-over : w .tag ≡ tag.Over → {k : Gathered} → k ≡ nextStep (w .g) → Values t s m₀ c₀ x m' (part.Went (w .at) k)
   on-over z d =
-      let v : Goes t s m₀ (begun c₀) (x .then) (x .at) m' (begun (nextStep (w .g))) (behindOf x) (w .at) =
-      subst (λ (a : Stand). Goes t s m₀ (begun c₀) a (x .at) m' (begun (nextStep (w .g))) (behindOf x) (w .at)) first
-      (subst (λ (g : Gathered). Goes t s m₀ g (standing (x .then .phase) 0 (x .then .time)) (x .at) m' (begun (nextStep (w .g))) (behindOf x) (w .at)) b (over-goes o e f z)) in
-      rw d (record { ends = (v .ahead, v .moves) })
+      let v : Goes t s m₀ c₀ (x .then) (x .at) m' (nextStep (w .g)) (behindOf x) (w .at) =
+      subst (λ (a : Stand). Goes t s m₀ c₀ a (x .at) m' (nextStep (w .g)) (behindOf x) (w .at)) first (over-goes o e f z) in
+      rw d (record { ends = (refl, v .ahead, v .moves) })
 
   pub on-out : w .tag ≡ tag.Out → Values t s m₀ c₀ x m' (part.Out (w .number) (w .at))
-  on-out z =
-      record {
-        ends =
-            subst (λ (a : Stand). (how : How) → Refuses t m₀ (begun c₀) (Left t how s a (x .at)) (w .number) (w .at)) first
-            (subst (λ (g : Gathered). (how : How) → Refuses t m₀ g (Left t how s (standing (x .then .phase) 0 (x .then .time)) (x .at)) (w .number) (w .at)) b (out-refuses o e f z));
-      }
+  on-out z = record { ends = subst (λ (a : Stand). (how : How) → Refuses t m₀ c₀ (Left t how s a (x .at)) (w .number) (w .at)) first (out-refuses o e f z) }
 
 pub ruleset values-laws = (on-start, on-sized, on-asks, on-less, still-less, on-more, on-still, on-over, on-out)

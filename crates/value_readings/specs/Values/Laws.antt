@@ -1,8 +1,8 @@
 -- One turn: it leaves what was left, and there is less to do.
 -- Assumes nothing.
-use Prim.Native.Nat.{ℕ, _<_, _≤_}
-use mathlib.Core.Path.{_≡_, refl, sym, ap, subst, _∙_}
-use mathlib.Core.Bool.{Bool, true, false, false≢true}
+use Prim.Native.Nat.{ℕ, _<_}
+use mathlib.Core.Path.{_≡_, sym, ap, subst}
+use mathlib.Core.Bool.{true, false, false≢true}
 use mathlib.Core.List.{List}
 use native.Mathlib.Omega.{arith}
 use lib.ListN.{length}
@@ -17,8 +17,8 @@ use Rattle.section_heads.specs.declared.Item.{Item}
 use Rattle.section_heads.specs.Heads.{standing}
 use Rattle.sections.specs.Item.{afterValues, valueItem}
 use Rattle.sections.specs.Item.Scans.{rank, toRead, scanFrom, Left, left-some}
-use Rattle.turns.specs.declared.Gathered.{Gathered}
-use Rattle.vector_turns.specs.OneVector.{isAct, isWrite, begun, nextStep}
+use Rattle.gather.specs.declared.Gathered.{Gathered}
+use Rattle.vector_turns.specs.OneVector.{isAct, isWrite, nextStep}
 use Rattle.item_turns.specs.Turn.{goesOn, Done}
 use Rattle.item_acts.specs.Moves.{Moves, Refuses}
 use Rattle.item_acts.specs.Acts.{ActAsks, Stays, Closes, Refusal}
@@ -125,14 +125,14 @@ module _ {t : Lists} {s : List ℕ} {m : Mem} {c : Gathered} {x : Stand} {i : �
       stay-on = (record { ahead = omega arith; moves = λ how. stays-moves (λ sc l. value-said l (q .values)) f }, stay-asks, stay-less f (toRead s x i))
 
     -- the step is over
-    pub closes-on : {g : Gathered} {p : ℕ} → Closes t m c (valueItem (t .kinds) s x i) m' g p → Goes t s m c x i m' (begun (nextStep g)) (standing (afterValues (x .phase)) 0 (x .time)) p
+    pub closes-on : {g : Gathered} {p : ℕ} → Closes t m c (valueItem (t .kinds) s x i) m' g p → Goes t s m c x i m' (nextStep g) (standing (afterValues (x .phase)) 0 (x .time)) p
     closes-on {g} {p} f =
         let z : y .then ≡ standing (afterValues (x .phase)) 0 (x .time) = subst (λ (a : Said). ValueBy x a (y .then)) (f .ends) (value-says (t .kinds) s x i) in
         record {
           ahead = omega (arith, value-ahead here (q .values) (ap isAct (f .ends)), ap (λ (v : Stand). toRead s v (y .at)) z, ap (λ (j : ℕ). toRead s (standing (afterValues (x .phase)) 0 (x .time)) j) (f .place));
           moves = λ how.
-              subst (λ (j : ℕ). Moves t m c (Left t how s x i) m' (begun (nextStep g)) (Left t how s (standing (afterValues (x .phase)) 0 (x .time)) j)) (sym (f .place))
-              (subst (λ (v : Stand). Moves t m c (Left t how s x i) m' (begun (nextStep g)) (Left t how s v (y .at))) z (closes-moves (λ sc l. value-said l (q .values)) f));
+              subst (λ (j : ℕ). Moves t m c (Left t how s x i) m' (nextStep g) (Left t how s (standing (afterValues (x .phase)) 0 (x .time)) j)) (sym (f .place))
+              (subst (λ (v : Stand). Moves t m c (Left t how s x i) m' (nextStep g) (Left t how s v (y .at))) z (closes-moves (λ sc l. value-said l (q .values)) f));
         }
 
   pub refusal-out : {n p : ℕ} → Refusal t m c (valueItem (t .kinds) s x i) n p → (how : How) → Refuses t m c (Left t how s x i) n p

@@ -1,22 +1,21 @@
 -- What the proofs of the functions search.
 -- Assumes nothing.
-use Prim.Native.Nat.{ℕ, _+_, _-_, _%_, _<_, _≤_}
-use mathlib.Core.Path.{_≡_, sym, ap, subst, _∙_}
-use mathlib.Core.Bool.{Bool, true, not}
+use Prim.Native.Nat.{ℕ, _-_, _%_, _<_, _≤_}
+use mathlib.Core.Path.{_≡_, sym, subst, _∙_}
+use mathlib.Core.Bool.{not}
 use mathlib.Core.List.{List}
 use native.Mathlib.Omega.{arith}
 use lib.Dec.{eqb}
 use lib.ListN.{length, getD}
 use Rattle.tables.specs.Lists.{nth}
 use Rattle.tables.specs.Checks.Laws.{nth-less}
-use Rattle.vecstarts.specs.Numbers.{listedIn}
 use Rattle.gather.specs.declared.VecInfo.{VecInfo}
 use Rattle.section_heads.specs.declared.Said.{Said}
 use Rattle.section_heads.specs.declared.Said.the-variants.{Write}
-use Rattle.turns.specs.declared.Gathered.{Gathered}
+use Rattle.gather.specs.declared.Gathered.{Gathered}
 use Rattle.turns.specs.declared.Turned.{Turned}
-use Rattle.turns.specs.Turns.{Left, mk, turnWrite, turnEnd, Writing, Unlists}
-use Rattle.vector_turns.specs.OneVector.{IdIn, BitIn, NamedBy, Named, forVector, vectorOf, ConcernedBy, Concerned, endTurn, turned, TurningBy, Turning}
+use Rattle.turns.specs.Turns.{mk, turnWrite, Writing}
+use Rattle.vector_turns.specs.OneVector.{IdIn, BitIn, NamedBy, Named, forVector, vectorOf, ConcernedBy, Concerned, turned, TurningBy, Turning}
 
 -- ---- the number of a vector
 

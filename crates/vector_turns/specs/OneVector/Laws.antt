@@ -25,18 +25,18 @@ use Rattle.vecbuffer.specs.Changes as change
 use Rattle.vecbuffer.specs.Changes.{updated}
 use Rattle.vecbuffer.specs.Stands.Laws.{asks-listed, listed-known}
 use Rattle.gather.specs.declared.VecInfo.{VecInfo}
-use Rattle.gather.specs.Memory.{memOf, Tabled}
+use Rattle.gather.specs.Memory.{Holds, memOf, Tabled}
 use Rattle.gather.specs.Makes.{Seen, vecInfo}
 use Rattle.gather.specs.Writes.{vecInfoFrom, Looks, looks-at, seen-from, OfVector, of-vector}
 use Rattle.section_heads.specs.declared.Said.{Said}
 use Rattle.section_heads.specs.declared.Said.the-variants.{Nothing, Time, Write, StepEnd, Over, Bad}
-use Rattle.turns.specs.declared.Gathered.{Gathered}
+use Rattle.gather.specs.declared.Gathered.{Gathered}
 use Rattle.turns.specs.declared.Turned.{Turned}
 use Rattle.turns.specs.Turns.{Left, mk, storedTurn, turnWrite, turnEnd, showVector}
 use Rattle.turns.specs.Turns as turn
-use Rattle.turns.specs.Goes.{Holding, After}
-use Rattle.turns.specs.Goes.Laws.{write-after, end-after, asks-write, asks-end, write-waits, shown-settles, end-further}
-use Rattle.vector_turns.specs.OneVector.{IdIn, BitIn, isWrite, actOf, NamedBy, Named, forVector, vectorOf, ConcernedBy, Concerned, endTurn, turned, TurningBy, Turning}
+use Rattle.turns.specs.Goes.{After}
+use Rattle.turns.specs.Goes.Laws.{write-after, end-after, asks-write, asks-end, write-waits, shown-settles}
+use Rattle.vector_turns.specs.OneVector.{BitIn, isWrite, actOf, NamedBy, Named, forVector, vectorOf, ConcernedBy, Concerned, endTurn, turned, TurningBy, Turning}
 
 -- ---- an item that is an act
 
@@ -75,7 +75,7 @@ module _ {t : Lists} (k : Tabled t) (c : Gathered) (v id : ℕ) (q : ReadyBy t c
 
 -- ---- what its turn asks
 
-module _ {t : Lists} (k : Tabled t) {r : Rooms} {room list events values : List ℕ} {c : Gathered} {g : State} {o : Out} (h : Holding t r (memOf room list events values) c g o) where
+module _ {t : Lists} (k : Tabled t) {r : Rooms} {room list events values : List ℕ} {c : Gathered} {g : State} {o : Out} (h : Holds t r (memOf room list events values) c g o) where
   known-at : (a : Said) → ReadyBy t c a → forVector (t .vecs) a ≡ true → vectorOf (t .vecs) list c a < length (t .mins)
   unfolding vectorOf
   known-at Nothing q z = absurd q
@@ -269,7 +269,7 @@ end-facts x c room list e = (ap (λ (l : Left). answer l .ended) e, ap (λ (l : 
 abbrev pub listedAs : Turned → Counts → Gathered
 listedAs w n = record { ended = w .ended; listed = w .listed; counts = n }
 
-module _ {t : Lists} (k : Tabled t) {r : Rooms} {room list events values : List ℕ} {c : Gathered} {g : State} {o : Out} (h : Holding t r (memOf room list events values) c g o) (x : VecInfo) {room′ list′ : List ℕ} {w : Turned} where
+module _ {t : Lists} (k : Tabled t) {r : Rooms} {room list events values : List ℕ} {c : Gathered} {g : State} {o : Out} (h : Holds t r (memOf room list events values) c g o) (x : VecInfo) {room′ list′ : List ℕ} {w : Turned} where
   over-at : (a : Said) → ReadyBy t c a → mk room′ list′ w ≡ turned (t .maxs) x c a room list → w .over ≡ true → isWrite a ≡ true
   unfolding turned
   over-at Nothing q e d = absurd q
