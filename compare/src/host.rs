@@ -123,6 +123,17 @@ mod linked {
         unsafe { raw::doorquill_time_rule(events.as_ptr(), events.len(), values.as_ptr(), values.len(), kept.as_mut_ptr(), kept.len()) }
     }
 
+    /// The references of a session vector, a strobe and a close line.
+    #[cfg(dropin)]
+    #[rustfmt::skip]
+    pub fn bench(events: &[u8], values: &[u8], [session, strobe, close]: [u32; 3], out: &mut [u8]) -> Answer {
+        unsafe {
+            raw::doorquill_bench(
+                events.as_ptr(), events.len(), values.as_ptr(), values.len(), session, strobe, close, out.as_mut_ptr(), out.len(),
+            )
+        }
+    }
+
     pub trait Word: Copy + Default + PartialEq {
         fn of(x: u64) -> Self;
     }
@@ -341,5 +352,7 @@ mod linked {
     }
 }
 
+#[cfg(dropin)]
+pub use linked::bench;
 #[cfg(port)]
-pub use linked::{read_sections, Out, Tables};
+pub use linked::{read_back, read_changes, read_sections, time_rule, write_sections, Out, Tables};

@@ -7,6 +7,8 @@ mod dropin;
 mod gathering;
 mod gen;
 mod host;
+#[cfg_attr(not(port), allow(dead_code))]
+mod inputs;
 mod judge;
 mod plain;
 #[allow(dead_code)]

@@ -79,33 +79,6 @@ fn put_real(events: &mut [u8], at: usize, reference: u32, bits: u64)
     put_u64(events, at + 5, bits);
 }
 
-// Appends the record of an event at `at`, and says how long it is.
-pub fn append_event(events: &mut [u8], at: usize, event: Record) -> usize
-    requires { ⌜ at + length (recordBytes event) ≤ length (now events) ⌝ }
-    ensures size { λ r. ⌜ (r ≡ length (recordBytes event)) × (r ≤ 13) ⌝ }
-    ensures bytes { λ _. ⌜ now (events .exit) ≡ splice (now (events .entry)) at (recordBytes event) ⌝ }
-{
-    match event {
-        Record::Time(time) => {
-            put_time(events, at, time);
-            9
-        }
-        Record::Value {
-            states,
-            reference,
-            start,
-            length,
-        } => {
-            put_value(events, at, states, reference, start, length);
-            13
-        }
-        Record::Real { reference, bits } => {
-            put_real(events, at, reference, bits);
-            13
-        }
-    }
-}
-
 // What stands at a place of an event stream: a record and the place after it, or the stream's end, or a refusal.
 pub enum Next {
     Event(Record, usize),
@@ -269,18 +242,16 @@ pub fn append_value(
     ensures counted { λ r. ⌜ r ≡ counted counts 13 n 0 ⌝ }
     ensures bytes { λ _. ⌜ now (events .exit) ≡ splice (now (events .entry)) (counts .events) (recordBytes (Record.Value states reference (counts .values) n)) ⌝ }
 {
-    let size = append_event(
+    put_value(
         events,
         counts.events,
-        Record::Value {
-            states,
-            reference,
-            start: counts.values as u32,
-            length: n as u32,
-        },
+        states,
+        reference,
+        counts.values as u32,
+        n as u32,
     );
     Counts {
-        events: counts.events + size,
+        events: counts.events + 13,
         values: counts.values + n,
         steps: counts.steps,
     }
@@ -294,9 +265,9 @@ pub fn time_change(events: &mut [u8], counts: Counts, time: u64) -> Put
     if !room_for(events.len(), counts.values, counts, 9, 0) {
         return Put::Full;
     }
-    let size = append_event(events, counts.events, Record::Time(time));
+    put_time(events, counts.events, time);
     Put::Done(Counts {
-        events: counts.events + size,
+        events: counts.events + 9,
         values: counts.values,
         steps: counts.steps + 1,
     })
@@ -310,9 +281,9 @@ pub fn real_change(events: &mut [u8], counts: Counts, reference: u32, bits: u64)
     if !room_for(events.len(), counts.values, counts, 13, 0) {
         return Put::Full;
     }
-    let size = append_event(events, counts.events, Record::Real { reference, bits });
+    put_real(events, counts.events, reference, bits);
     Put::Done(Counts {
-        events: counts.events + size,
+        events: counts.events + 13,
         values: counts.values,
         steps: counts.steps,
     })

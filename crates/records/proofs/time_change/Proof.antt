@@ -1,3 +1,4 @@
+-- Written by tools/proof-answers from proofs.map.
 -- `records::time_change` meets its contract: each need follows from `time-laws`. Assumes nothing.
 use Rattle.records.specs.Out.Code.{time-laws}
 use borrow.Author.Needs.{needs}
@@ -10,14 +11,14 @@ room-for-requires c κs = search (time-laws, needs)
 returns : tie.Need-returns
 returns c = search (time-laws, needs)
 
-append-event-requires : tie.Need-append-event-requires
-append-event-requires c κs = search (time-laws, needs)
+put-time-requires : tie.Need-put-time-requires
+put-time-requires c κs = search (time-laws, needs)
 
-add-t6 : tie.Need-add-t6
-add-t6 c = search (time-laws, needs)
+add-t5 : tie.Need-add-t5
+add-t5 c = search (time-laws, needs)
 
-add-t11 : tie.Need-add-t11
-add-t11 c = search (time-laws, needs)
+add-t10 : tie.Need-add-t10
+add-t10 c = search (time-laws, needs)
 
 same-length : tie.Need-same-length
 same-length c = search (time-laws, needs)
@@ -28,4 +29,4 @@ returns-2 c = search (time-laws, needs)
 pub time-change-spec : {M : Type 1} → statement M
 time-change-spec =
     tie.close
-    (tie.spec room-for-requires returns append-event-requires add-t6 add-t11 same-length returns-2)
+    (tie.spec room-for-requires returns put-time-requires add-t5 add-t10 same-length returns-2)

@@ -1,6 +1,6 @@
--- What the proofs of `append_event` and the functions below it search.
+-- What the proofs of the functions that put a record search.
 -- Assumes nothing.
-use mathlib.Core.Path.{_≡_, refl, sym, ap, _∙_}
+use mathlib.Core.Path.{_≡_, refl, ap, _∙_}
 use Prim.Native.Nat.{ℕ, suc, _+_, _≤_}
 use mathlib.Core.List.{List, [], _∷_, _++_}
 use native.Mathlib.Omega.{arith}
@@ -10,10 +10,8 @@ use Rattle.slices.specs.Splice.Laws.{splice-splice, set-splice}
 use Rattle.numbers.specs.Fixed.{bigBytes}
 use Rattle.numbers.specs.Fixed.Laws.{length-bigBytes}
 use Rattle.states.specs.declared.States.{States}
-use Rattle.records.specs.declared.Record.{Record}
 use Rattle.records.specs.declared.Record.the-variants.{Time, Value, Real}
 use Rattle.records.specs.Event.{kindOf, recordBytes}
-use Rattle.records.specs.Event.Laws.{length-time, length-value, length-real}
 
 -- ---- the fields of a record, each behind the one before
 
@@ -48,39 +46,4 @@ module _ (e : List ℕ) (at : ℕ) where
       unfolding recordBytes
       real-put four bits q = second (bigBytes 8 bits) q ∙ ap (λ (x : ℕ). splice e at (x ∷ bigBytes 4 reference ++ bigBytes 8 bits)) four
 
--- ---- an event, by its kind
-
-module _ {e : Record} where
-  module _ {u : ℕ} (t : e ≡ Time u) where
-    pub time-size : 9 ≡ length (recordBytes e)
-    time-size = rw t (sym (length-time u))
-
-    pub time-fits : (at n : ℕ) → at + length (recordBytes e) ≤ n → at + 9 ≤ n
-    time-fits at n h = omega (arith, time-size)
-
-    pub time-bytes : (b b₂ : List ℕ) (at : ℕ) → b₂ ≡ splice b at (recordBytes (Time u)) → b₂ ≡ splice b at (recordBytes e)
-    time-bytes b b₂ at h = rw t h
-
-  module _ {s : States} {reference start n : ℕ} (t : e ≡ Value s reference start n) where
-    pub value-size : 13 ≡ length (recordBytes e)
-    value-size = rw t (sym (length-value s reference start n))
-
-    pub value-fits : (at m : ℕ) → at + length (recordBytes e) ≤ m → at + 13 ≤ m
-    value-fits at m h = omega (arith, value-size)
-
-    pub value-bytes : (b b₂ : List ℕ) (at : ℕ) → b₂ ≡ splice b at (recordBytes (Value s reference start n)) → b₂ ≡ splice b at (recordBytes e)
-    value-bytes b b₂ at h = rw t h
-
-  module _ {reference bits : ℕ} (t : e ≡ Real reference bits) where
-    pub real-size : 13 ≡ length (recordBytes e)
-    real-size = rw t (sym (length-real reference bits))
-
-    pub real-fits : (at m : ℕ) → at + length (recordBytes e) ≤ m → at + 13 ≤ m
-    real-fits at m h = omega (arith, real-size)
-
-    pub real-bytes : (b b₂ : List ℕ) (at : ℕ) → b₂ ≡ splice b at (recordBytes (Real reference bits)) → b₂ ≡ splice b at (recordBytes e)
-    real-bytes b b₂ at h = rw t h
-
 pub ruleset put-laws = (kind-put, time-put, value-put, real-put)
-
-pub ruleset event-laws = (time-size, time-fits, time-bytes, value-size, value-fits, value-bytes, real-size, real-fits, real-bytes)

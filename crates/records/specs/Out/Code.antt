@@ -1,6 +1,6 @@
 -- What the proofs of the functions that append an event where it fits search.
 -- Assumes nothing.
-use mathlib.Core.Path.{_≡_, refl, sym, ap, _∙_}
+use mathlib.Core.Path.{_≡_, refl, sym, _∙_}
 use Prim.Native.Nat.{ℕ, _+_, _-_, _≤_, _<_}
 use mathlib.Core.Bool.{Bool, true, false, not}
 use mathlib.Core.Logic.{⊎-elim}
@@ -18,7 +18,7 @@ use Rattle.records.specs.declared.Counts.{Counts}
 use Rattle.records.specs.declared.Put.the-variants.{Done, Full}
 use Rattle.records.specs.declared.Record.the-variants.{Time, Value, Real}
 use Rattle.records.specs.Event.{Event, time, value, real, recordOf, recordBytes, eventValue, eventSteps}
-use Rattle.records.specs.Event.Laws.{length-time, length-value, length-real}
+use Rattle.records.specs.Event.Laws.{length-time, length-real}
 use Rattle.records.specs.Out.Laws.{ValuesRoom, Appends, roomFor, roomForEvent, room-fits, counted, appends-full, appends-done, value-full, value-done}
 
 -- ---- the test
@@ -37,12 +37,8 @@ module _ (events values : ℕ) (c : Counts) (n m : ℕ) where
 
 -- ---- a value
 
-pub value-room : (s : States) (reference start n at l : ℕ) → at + 13 ≤ l → at + length (recordBytes (Value s reference start n)) ≤ l
-value-room s reference start n at l h = rw (length-value s reference start n) h
-
-pub value-counted : (s : States) (reference start k : ℕ) (c : Counts) (size n : ℕ) → size ≡ length (recordBytes (Value s reference start k))
-    → _≡_ {A = Counts} (record { events = c .events + size; values = c .values + n; steps = c .steps }) (counted c 13 n 0)
-value-counted s reference start k c size n e = rw (e, length-value s reference start k, add-zero (c .steps))
+pub value-counted : (c : Counts) (n : ℕ) → _≡_ {A = Counts} (record { events = c .events + 13; values = c .values + n; steps = c .steps }) (counted c 13 n 0)
+value-counted c n = rw (add-zero (c .steps))
 
 -- ---- an event with no value bytes: the value room is not asked
 
@@ -76,13 +72,13 @@ module _ (events : List ℕ) (c : Counts) where
     unfolding eventValue
     time-full h events' values = bare-full (time u) refl time-long events c t events' values (not-true m h)
 
-    pub time-done : not m ≡ false → (events' : List ℕ) (size : ℕ) → size ≡ length (recordBytes (Time u)) → events' ≡ splice events (c .events) (recordBytes (Time u))
-        → (values : List ℕ) → Appends (time u ∷ []) events values c events' values (Done (record { events = c .events + size; values = c .values; steps = c .steps + 1 }))
+    pub time-done : not m ≡ false → (events' : List ℕ) → events' ≡ splice events (c .events) (recordBytes (Time u))
+        → (values : List ℕ) → Appends (time u ∷ []) events values c events' values (Done (record { events = c .events + 9; values = c .values; steps = c .steps + 1 }))
     unfolding eventValue recordOf eventSteps
-    time-done h events' size n p values = bare-done (time u) refl time-long events c t events' values (not-false m h) _ (rw n (ap (λ (k : ℕ). c .events + k) time-long)) refl refl p
+    time-done h events' p values = bare-done (time u) refl time-long events c t events' values (not-false m h) _ refl refl refl p
 
-    pub time-room : not m ≡ false → c .events + length (recordBytes (Time u)) ≤ length events
-    time-room h = rw (length-time u) (room-fits (length events) (c .values) c 9 0 (sym t ∙ not-false m h) .0)
+    pub time-room : not m ≡ false → c .events + 9 ≤ length events
+    time-room h = room-fits (length events) (c .values) c 9 0 (sym t ∙ not-false m h) .0
 
   module _ {m : Bool} (reference bits : ℕ) (t : m ≡ roomFor (length events) (c .values) c 13 0) where
     real-long : length (recordBytes (recordOf 0 (real reference bits))) ≡ 13
@@ -93,14 +89,14 @@ module _ (events : List ℕ) (c : Counts) where
     unfolding eventValue
     real-full h events' values = bare-full (real reference bits) refl real-long events c t events' values (not-true m h)
 
-    pub real-done : not m ≡ false → (events' : List ℕ) (size : ℕ) → size ≡ length (recordBytes (Real reference bits)) → events' ≡ splice events (c .events) (recordBytes (Real reference bits))
-        → (values : List ℕ) → Appends (real reference bits ∷ []) events values c events' values (Done (record { events = c .events + size; values = c .values; steps = c .steps }))
+    pub real-done : not m ≡ false → (events' : List ℕ) → events' ≡ splice events (c .events) (recordBytes (Real reference bits))
+        → (values : List ℕ) → Appends (real reference bits ∷ []) events values c events' values (Done (record { events = c .events + 13; values = c .values; steps = c .steps }))
     unfolding eventValue recordOf eventSteps
-    real-done h events' size n p values =
-        bare-done (real reference bits) refl real-long events c t events' values (not-false m h) _ (rw n (ap (λ (k : ℕ). c .events + k) real-long)) refl (sym (add-zero (c .steps))) p
+    real-done h events' p values =
+        bare-done (real reference bits) refl real-long events c t events' values (not-false m h) _ refl refl (sym (add-zero (c .steps))) p
 
-    pub real-room : not m ≡ false → c .events + length (recordBytes (Real reference bits)) ≤ length events
-    real-room h = rw (length-real reference bits) (room-fits (length events) (c .values) c 13 0 (sym t ∙ not-false m h) .0)
+    pub real-room : not m ≡ false → c .events + 13 ≤ length events
+    real-room h = room-fits (length events) (c .values) c 13 0 (sym t ∙ not-false m h) .0
 
 -- ---- a value with its bytes
 
@@ -124,7 +120,7 @@ module _ (vector : ℕ) (s : States) (reference : ℕ) (bs : List ℕ) (events v
 
 pub ruleset room-laws = (room-lacks, room-left)
 
-pub ruleset value-laws = (value-room, value-counted)
+pub ruleset value-laws = (value-counted)
 
 pub ruleset time-laws = (time-full, time-done, time-room)
 
