@@ -16,6 +16,12 @@ module _ (cost : Act → ℕ) where
   costs [] = 0
   costs (a ∷ l) = cost a + costs l
 
+  -- of all acts of a scan
+  unfoldable pub costsOf : Scan → ℕ
+  costsOf (say a p rest) = cost a + costsOf rest
+  costsOf (done i) = 0
+  costsOf (fault m p) = 0
+
   -- behind acts that cost n: after each act all have cost no more than the budget of the bytes read, and these lie in the input
   module _ (budget : ℕ → ℕ) (input : ℕ) where
     unfoldable pub Covers : ℕ → Scan → Type 0
@@ -31,3 +37,11 @@ module _ (cost : Act → ℕ) where
         rw (← e) (omega (arith, r .0), r .1)
     covers-said (done i) n before a p c e = absurd e
     covers-said (fault m q) n before a p c e = absurd e
+
+    pub covers-all : ((i j : ℕ) → i ≤ j → budget i ≤ budget j) → (sc : Scan) (n : ℕ) → n ≤ budget input → Covers n sc → n + costsOf sc ≤ budget input
+    unfolding Covers costsOf
+    covers-all more (say a p rest) n l c =
+        let r = covers-all more rest (n + cost a) (omega (arith, c .0, more p input (c .1))) (c .2) in
+        omega (arith, r)
+    covers-all more (done i) n l c = omega arith
+    covers-all more (fault m p) n l c = omega arith

@@ -4,3 +4,4 @@ pub mod Gathered
 pub mod Costs
 pub mod Sizes
 pub mod Readings
+pub mod Calls
