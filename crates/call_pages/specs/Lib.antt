@@ -1,0 +1,3 @@
+-- Assumes nothing.
+pub mod Exact
+pub mod Pages

@@ -1,0 +1,1 @@
+// How much room is always enough for each call: see specs/.
