@@ -4,7 +4,8 @@
  * No call allocates, keeps state, blocks or fails to end; each reads and writes inside the memory that it is lent and nowhere else, whatever that
  * holds. Calls may run side by side on memory of their own. The archives need memcpy and memset and nothing else.
  *
- * A list is a pointer and a length in elements; an empty one may be NULL, 0. Lists must not overlap one that a call writes to.
+ * A list is a pointer and a length in elements; an empty one may be NULL, 0. What the proofs take for granted of a C caller, lengths aside:
+ * every list lies in memory that may be read, or written, for its whole length; none overlaps one that a call writes to; a bool is 0 or 1.
  * On acceptance an output is zero past the reported bytes, on a refusal it is zero throughout; working room is zero at every return.
  * docs/REFUSALS.md explains the numbers. */
 #ifndef DOORQUILL_H
