@@ -62,11 +62,17 @@ fn nine(s: &[u8], at: usize) -> Run
 pub fn unsigned(s: &[u8], at: usize) -> Leb
     ensures { λ r. ⌜ r ≡ readUnsigned (now (s .entry)) at ⌝ }
 {
-    // Most numbers have one byte.
+    // Most numbers have one byte, or two.
     if at < s.len() {
         let first = s[at];
         if first < 128 {
             return Leb::Value((first % 128) as u64, at + 1);
+        }
+        if 1 < s.len() - at {
+            let second = s[at + 1];
+            if second < 128 {
+                return Leb::Value((first % 128) as u64 + (second % 128) as u64 * 128, at + 2);
+            }
         }
     }
     match nine(s, at) {

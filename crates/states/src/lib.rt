@@ -79,11 +79,19 @@ impl States {
 // From IEEE 1164's order to the order of the crate.
 pub const STD_LOGIC_LUT: [u8; 9] = [5, 2, 0, 1, 3, 6, 7, 4, 8];
 
-pub fn std_logic(value: u8) -> u8
+pub fn std_logic_entry(value: u8) -> u8
     requires { ⌜ value ≤ 8 ⌝ }
     ensures { λ r. ⌜ r ≡ mapped value ⌝ }
 {
     STD_LOGIC_LUT[value as usize]
+}
+
+// The table's entries as the digits of one number, the first the lowest: a table is laid on the stack at each use, a number is not.
+pub fn std_logic(value: u8) -> u8
+    requires { ⌜ value ≤ 8 ⌝ }
+    ensures { λ r. ⌜ r ≡ mapped value ⌝ }
+{
+    ((0x8_4763_1025u64 >> (value as u32 * 4)) % 16) as u8
 }
 
 // A field of a byte, by shifts and masks.

@@ -188,6 +188,15 @@ unsigned-one s at h b =
     let e : 0 + getD s at 0 % 128 * 1 ≡ getD s at 0 % 128 = omega arith in
     rw e at (unsigned-ended s at {r = Ended (0 + getD s at 0 % 128 * 1) 128 (getD s at 0) (at + 1)} (nine-ended (passed-none s at) h (omega arith) b) refl)
 
+pub unsigned-two : (s : List ℕ) (at : ℕ) → at < length s → 128 ≤ getD s at 0 → 1 < length s - at → getD s (at + 1) 0 < 128
+    → Value (getD s at 0 % 128 + getD s (at + 1) 0 % 128 * 128) (at + 2) ≡ readUnsigned s at
+unsigned-two s at h a g b =
+    let e : 0 + getD s at 0 % 128 * 1 + getD s (at + 1) 0 % 128 * (1 * 128) ≡ getD s at 0 % 128 + getD s (at + 1) 0 % 128 * 128 = omega arith in
+    let p : at + 1 + 1 ≡ at + 2 = omega arith in
+    let o : at + 1 < length s = omega arith in
+    let n = nine-ended (passed-more (passed-none s at) h (omega arith) a) o (omega arith) b in
+    rw (e, p) at (unsigned-ended s at {r = Ended _ (1 * 128 * 128) (getD s (at + 1) 0) (at + 1 + 1)} n refl)
+
 pub unsigned-large : (b : ℕ) → 1 < b → unsignedTenth b ≡ false
 unfolding unsignedTenth
 unsigned-large b h = lt-leb b 1 h
@@ -257,7 +266,7 @@ signed-large b z o = simp (ne-eqb b 0 z, ne-eqb b 127 o)
 -- what the proofs of `nine`, `unsigned` and `signed` search
 pub ruleset nine-laws = (passed-none, passed-more, weight-fits, group-fits, sum-fits, nine-ended, nine-short, nine-open)
 
-pub ruleset unsigned-laws = (unsigned-one, leb-short, leb-cut, leb-large, tenth-fits, unsigned-ended, unsigned-large, unsigned-ten)
+pub ruleset unsigned-laws = (unsigned-one, unsigned-two, leb-short, leb-cut, leb-large, tenth-fits, unsigned-ended, unsigned-large, unsigned-ten)
 
 pub ruleset signed-laws =
     (leb-short, leb-cut, leb-large, ten-fits, high-fits, high-fits-one, signed-ended-low, signed-ended-high, signed-large, signed-ten-low, signed-ten-high)

@@ -1,7 +1,7 @@
 -- The nine-entry table is the map, proved once over the whole table.
 -- Assumes nothing.
 use mathlib.Core.Path.{_≡_, refl, ap, _∙_}
-use Prim.Native.Nat.{ℕ, zero, suc, _≤_, _<_}
+use Prim.Native.Nat.{ℕ, zero, suc, _*_, _/_, _%_, _^_, _≤_, _<_}
 use Prim.Native.String.{String}
 use mathlib.Core.Bool.{Bool, true, false, cond, false≢true}
 use mathlib.Core.List.{List, [], _∷_}
@@ -35,6 +35,22 @@ pub table-maps : (b : ℕ) → b ≤ 8 → getD table b 0 ≡ mapped b
 unfolding mapped ieee1164
 table-maps b h = ap (λ (l : List ℕ). getD l b 0) table-is ∙ maps-at ieee1164 b (omega arith)
 
+-- the table's entries are the digits of one number, the first the lowest
+digits : (b : ℕ) → b ≤ 8 → 0x8_4763_1025 / 2 ^ (b * 4) % 16 ≡ getD table b 0
+digits zero h = refl
+digits (suc zero) h = refl
+digits (suc (suc zero)) h = refl
+digits (suc (suc (suc zero))) h = refl
+digits (suc (suc (suc (suc zero)))) h = refl
+digits (suc (suc (suc (suc (suc zero))))) h = refl
+digits (suc (suc (suc (suc (suc (suc zero)))))) h = refl
+digits (suc (suc (suc (suc (suc (suc (suc zero))))))) h = refl
+digits (suc (suc (suc (suc (suc (suc (suc (suc zero)))))))) h = refl
+digits (suc (suc (suc (suc (suc (suc (suc (suc (suc b))))))))) h = absurd (omega arith)
+
+pub digit-maps : (b : ℕ) → b ≤ 8 → 0x8_4763_1025 / 2 ^ (b * 4) % 16 ≡ mapped b
+digit-maps b h = digits b h ∙ table-maps b h
+
 -- the letters that some values stand for in the crate's order
 pub letters : List ℕ → List String
 letters [] = []
@@ -64,4 +80,4 @@ pub mapped-most : (b : ℕ) → b ≤ 8 → mapped b ≤ 8
 unfolding small
 mapped-most b h = rw (← table-maps b h) (small-at table b refl)
 
-pub ruleset table-laws = (table-maps)
+pub ruleset table-laws = (table-maps, digit-maps)
