@@ -1,4 +1,4 @@
-/* The C calls over the entries of an unproved module: each slice, a pointer and a length, goes on as a pointer to both. */
+/* The C calls over the entries of an unproved module: a slice, a pointer and a length, goes on as a pointer to both. */
 typedef unsigned long u64;
 typedef struct { u64 numbers[6]; } Answer;
 typedef struct { const void *at; u64 length; } Slice;
@@ -8,7 +8,8 @@ typedef struct { const void *at; u64 length; } Slice;
 #define ITS_TABLES P(kinds), P(refs), P(vecs), P(mins), P(maxs), P(states), P(vec_refs)
 #define ROOMS S(events), S(values), S(room), S(list)
 #define ITS_ROOMS P(events), P(values), P(room), P(list)
-#define FACE(name, takes, ...) void entry_##name(); Answer doorquill_##name takes { Answer a; entry_##name(&a, __VA_ARGS__); return a; }
+#define FACE(name, takes, ...) void entry_##name(); \
+    Answer doorquill_##name takes { Answer a; entry_##name(&a, __VA_ARGS__); return a; }
 FACE(read_sections, (TABLES, _Bool big, S(input), ROOMS), ITS_TABLES, big, P(input), ITS_ROOMS)
 FACE(read_sections_lent, (S(kinds), S(refs), S(vecs), S(vectors), S(flat), _Bool big, S(input), ROOMS),
      P(kinds), P(refs), P(vecs), P(vectors), P(flat), big, P(input), ITS_ROOMS)
