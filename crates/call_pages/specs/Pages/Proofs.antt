@@ -49,6 +49,7 @@ use Rattle.courses.specs.GivenBack.Laws.{back-fills, given-told}
 use Rattle.courses.specs.Benched.{benched}
 use Rattle.courses.specs.Benched.Laws.{benched-fills}
 use Rattle.call_pages.specs.Exact.{Exact}
+use Rattle.call_pages.specs.Crowded.Proofs.{benched-crowded}
 use Rattle.call_pages.specs.Exact.Proofs.{calls, exact, only}
 use Rattle.call_pages.specs.Pages.{Shaped, ruleChecks, RulePage, benchChecks, BenchPage, WritePage, BackPage}
 
@@ -179,9 +180,6 @@ module _ (events values : List ℕ) (session strobe close room : ℕ) where
       ∙ sym (checked-then _ _ _ ∙ checked-unless (benching.limitsOf events values room) 1 _
       ∙ ap (λ o. cond (benching.limitsOf events values room) o (refused 1 0)) (checked-unless (benching.apart session strobe close) 34 _)))
 
-  bench-told : Told (λ i. (n : ℕ) × Ends i n course) (λ n p. Faults n p course) course
-  bench-told = record { ends = λ i n e. (n, e); ended = λ i e. e; faults = λ n p e. e; faulted = λ n p e. e }
-
   bench-low : (n p : ℕ) → checks ≡ Refused n p → 1 ≤ n
   bench-low = then-low _ _ (unless-low (benching.limitsOf events values room) 1 (omega arith)) (unless-low (benching.apart session strobe close) 34 (omega arith))
 
@@ -191,8 +189,8 @@ module _ (events values : List ℕ) (session strobe close room : ℕ) where
       omega (arith, c .1)
 
   pub bench-page : BenchPage events values session strobe close room (benching.bench events values session strobe close room)
-  bench-page = subst (BenchPage events values session strobe close room) (sym bench-is) (exact checks _ _ room course bench-told bench-low bench-some)
+  bench-page = subst (BenchPage events values session strobe close room) (sym bench-is) (exact checks _ _ room course (benched-crowded names events values) bench-low bench-some)
 
   pub bench-only : (x : LeftKept) → Shaped 34 (length events) room x → BenchPage events values session strobe close room x
       → x ≡ benching.bench events values session strobe close room
-  bench-only x d e = only checks _ _ room course bench-told 34 (length events) x (d .answers) (d .output) (d .no-values) e ∙ sym bench-is
+  bench-only x d e = only checks _ _ room course (benched-crowded names events values) 34 (length events) x (d .answers) (d .output) (d .no-values) e ∙ sym bench-is

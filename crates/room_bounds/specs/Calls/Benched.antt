@@ -2,17 +2,15 @@
 -- Assumes nothing.
 use Prim.Native.Nat.{ℕ, zero, suc, _+_, _*_, _≤_, _<_}
 use mathlib.Core.Path.{_≡_, refl, sym, ap, _∙_}
-use mathlib.Core.Logic.{_≢_, _⊎_, inl, inr, ⊎-elim}
+use mathlib.Core.Logic.{_≢_}
 use mathlib.Core.Bool.{Bool, true, false, cond, _&&_}
 use mathlib.Core.List.{List, [], _∷_, _++_}
 use native.Mathlib.Omega.{arith}
-use borrow.Author.Tests.{ltb-true, eq-eqb, ne-eqb, eqb-true}
+use borrow.Author.Tests.{ltb-true}
 use lib.ListN.{length, getD, set, length-append}
-use lib.Seq.{getD-set-same, getD-set-other}
 use lib.Dec.{ltb, eqb}
-use Rattle.slices.specs.Choice.{cond-ind, le-or-lt, tri, apart}
+use Rattle.slices.specs.Choice.{cond-ind}
 use Rattle.numbers.specs.Fixed.{bigBytes}
-use Rattle.states.specs.Packed.Bytes.{getD-past}
 use Rattle.tables.specs.Checks.{unless, andThen}
 use Rattle.tables.specs.Checks.Laws.{both}
 use Rattle.tables.specs.declared.Check.{Check}
@@ -31,27 +29,15 @@ use Rattle.fragments.specs.Counting.{closes, closedOf}
 use Rattle.bench.specs.Bench as benching
 use Rattle.courses.specs.Course.{Course, adds, fault, bytesOf, Faults}
 use Rattle.courses.specs.Benched.{seats, counts, drops, benchedFrom, benched}
+use Rattle.call_pages.specs.Crowded.Places.{taken, takenFrom, live, counted-live, dropped-live, live-none}
+use Rattle.call_pages.specs.Crowded.Proofs.{benched-crowded}
 use Rattle.call_pages.specs.Pages.{benchChecks}
 use Rattle.call_pages.specs.Pages.Proofs.{bench-page}
 use Rattle.room_bounds.specs.Rooms.{benchRoom}
 use Rattle.room_bounds.specs.Calls.{not-full, unless-not}
 use Rattle.room_bounds.specs.Calls.Rises.{rises-paid, Never, ends-never}
 
--- ---- live sessions
-
--- 1 where a place is taken
-abbrev taken : Bench → ℕ → ℕ
-taken b k = cond (isFree b k) 0 1
-
-unfoldable takenFrom : Bench → (n k : ℕ) → ℕ
-takenFrom b zero k = 0
-takenFrom b (suc n) k = taken b k + takenFrom b n (suc k)
-
-abbrev live : Bench → ℕ
-live b = takenFrom b 32 0
-
-taken-most : (b : Bench) (k : ℕ) → taken b k ≤ 1
-taken-most b k = cond-ind (isFree b k) _ _ (λ (n : ℕ). n ≤ 1) (λ e. omega arith) (λ e. omega arith)
+-- ---- what is held
 
 held-one : (b : Bench) (k : ℕ) → length (output.bytesOf (heldAt b k)) ≡ 13 * taken b k
 unfolding heldAt output.bytesOf outBytes bigBytes
@@ -66,39 +52,6 @@ held-long : (b : Bench) (n k : ℕ) → length (output.bytesOf (heldFrom b n k))
 unfolding heldFrom takenFrom output.bytesOf
 held-long b zero k = refl
 held-long b (suc n) k = ap length (bytes-append (heldAt b k) (heldFrom b n (suc k))) ∙ (length-append (output.bytesOf (heldAt b k)) _ ∙ omega (arith, held-one b k, held-long b n (suc k)))
-
--- ---- one place changed
-
--- a bench whose counts differ at one place
-module _ (b c : Bench) (k : ℕ) (same : (i : ℕ) → i ≢ k → taken c i ≡ taken b i) where
-  behind : (n i : ℕ) → k < i → takenFrom c n i ≡ takenFrom b n i
-  unfolding takenFrom
-  behind zero i h = refl
-  behind (suc n) i h = omega (arith, same i (λ e. omega arith), behind n (suc i) (omega arith))
-
-  one-more : (n i : ℕ) → takenFrom c n i ≤ takenFrom b n i + 1
-  unfolding takenFrom
-  one-more zero i = omega arith
-  one-more (suc n) i =
-      ⊎-elim (λ (e : i ≡ k). omega (arith, taken-most c i, behind n (suc i) (omega arith)))
-      (λ (o : (i < k) ⊎ (k < i)). omega (arith, same i (apart o), one-more n (suc i))) (tri i k)
-
-  one-less : taken b k ≡ 1 → taken c k ≡ 0 → (n i : ℕ) → i ≤ k → k < i + n → takenFrom c n i + 1 ≤ takenFrom b n i
-  unfolding takenFrom
-  one-less p q zero i h l = absurd (omega arith)
-  one-less p q (suc n) i h l =
-      ⊎-elim (λ (e : i ≡ k). let x : taken b i ≡ 1 = rw e p in let y : taken c i ≡ 0 = rw e q in omega (arith, behind n (suc i) (omega arith)))
-      (λ (o : (i < k) ⊎ (k < i)). omega (arith, same i (apart o), one-less p q n (suc i) (omega (arith, apart o)) (omega arith))) (tri i k)
-
-counted-live : (b : Bench) (k x : ℕ) → live (counted b k x) ≤ live b + 1
-unfolding counted isFree
-counted-live b k x = one-more b (counted b k x) k (λ i n. rw (getD-set-other (b .counts) k i (getD (b .counts) k 0 + 1) 0 n)) 32 0
-
-dropped-live : (b : Bench) (k : ℕ) → 0 < getD (b .counts) k 0 → k < 32 → live (dropped b k) + 1 ≤ live b
-unfolding dropped isFree
-dropped-live b k h l =
-    let m : k < length (b .counts) = ⊎-elim (λ (z : length (b .counts) ≤ k). absurd (omega (arith, getD-past (b .counts) k z))) (λ (z : k < length (b .counts)). z) (le-or-lt (length (b .counts)) k) in
-    one-less b (dropped b k) k (λ i n. rw (getD-set-other (b .counts) k i 0 0 n)) (rw (ne-eqb (getD (b .counts) k 0) 0 (λ e. omega arith))) (rw (getD-set-same (b .counts) k 0 0 m)) 32 0 (omega arith) (omega arith)
 
 -- ---- what is written
 
@@ -149,10 +102,6 @@ bench-long (steps.step w at next rest) b before k =
 bench-long (steps.done read) b before k = omega (arith, length-append (output.bytesOf (heldOf b)) [], held-long b 32 0)
 bench-long (steps.refused n p) b before k = omega arith
 
-live-none : live empty ≡ 0
-unfolding takenFrom isFree
-live-none = refl
-
 -- ---- no 16 but for the room
 
 module _ (p : ℕ) where
@@ -196,4 +145,4 @@ module _ (events values : List ℕ) (session strobe close : ℕ) where
       not-full (benchChecks events values session strobe close room) _ _ room (benched names events values) (benching.bench events values session strobe close room)
       (bench-page events values session strobe close room)
       (then-not _ _ (unless-not (benching.limitsOf events values room) 1 (λ e. omega arith)) (unless-not (benching.apart session strobe close) 34 (λ e. omega arith)))
-      (λ p f. bench-none p (stepEnds names events values) (ends-never names events values) empty unseen 0 f) (λ k. omega (arith, benched-long))
+      (λ p f. bench-none p (stepEnds names events values) (ends-never names events values) empty unseen 0 (benched-crowded names events values .faulted 16 p f)) (λ k. omega (arith, benched-long))
