@@ -1,4 +1,5 @@
--- The bench's first fault, from the step ends alone: the live sessions are a list, and no place, count or room is asked.
+-- The bench's first fault, from the step ends alone: the live sessions are a list, and no place, count or room is
+-- asked.
 -- Assumes nothing.
 use Prim.Native.Nat.{ℕ}
 use mathlib.Core.Bool.{Bool, not, cond, _&&_}

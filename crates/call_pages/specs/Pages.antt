@@ -40,7 +40,8 @@ ruleChecks s values room = unless (keeping.limitsOf s values room) 1
 -- the first fault is the first record that is refused, by the records alone
 abbrev pub RulePage : List ℕ → (values room : ℕ) → LeftKept → Type 0
 RulePage s values room =
-    Exact (ruleChecks s values room) (λ i. Ends i 0 (read s values)) (λ n p. Faults n p (read s values)) room (ruled s values)
+    Exact (ruleChecks s values room) (λ i. Ends i 0 (read s values))
+    (λ n p. Faults n p (read s values)) room (ruled s values)
 
 -- ---- the bench
 
@@ -61,9 +62,11 @@ BenchPage events values session strobe close room =
 -- the first fault is that of change reading's scan, or the first act that is not in order
 abbrev pub WritePage : Lists → Bool → List ℕ → (room : ℕ) → LeftKept → Type 0
 WritePage t flag s room =
-    Exact (checksWithoutRoom t (length s) room) (λ i. scan.Ends i (orderly t s)) (λ n p. scan.Faults n p (orderly t s)) room (written t flag s)
+    Exact (checksWithoutRoom t (length s) room) (λ i. scan.Ends i (orderly t s))
+    (λ n p. scan.Faults n p (orderly t s)) room (written t flag s)
 
 abbrev pub BackPage : Lists → Bool → List ℕ → (room : ℕ) → LeftKept → Type 0
 BackPage t flag s room =
-    Exact (checksWithoutRoom t (length s) room) (λ i. scan.Ends i (scanSections t flag s)) (λ n p. scan.Faults n p (scanSections t flag s)) room
+    Exact (checksWithoutRoom t (length s) room) (λ i. scan.Ends i (scanSections t flag s))
+    (λ n p. scan.Faults n p (scanSections t flag s)) room
     (givenBack t flag s)

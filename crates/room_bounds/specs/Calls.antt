@@ -20,7 +20,8 @@ pub mod Rises
 pub mod Benched
 
 module _ (checks : Check) (ends : ℕ → Type 0) (faults : ℕ → ℕ → Type 0) (room : ℕ) (c : Course) where
-  pub not-full : (x : LeftKept) → Exact checks ends faults room c x → ((p : ℕ) → checks ≡ Refused 16 p → ⊥) → ((p : ℕ) → faults 16 p → ⊥)
+  pub not-full : (x : LeftKept) → Exact checks ends faults room c x → ((p : ℕ) → checks ≡ Refused 16 p → ⊥)
+      → ((p : ℕ) → faults 16 p → ⊥)
       → (checks ≡ Passed → length (bytesOf c) ≤ room) → x .answer .number ≢ 16
   not-full x e k f h z = by (x .answer .place) (rw z at (e .refuses (λ o. omega arith)))
     where

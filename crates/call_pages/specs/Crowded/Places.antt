@@ -42,7 +42,8 @@ unfolding takenFrom
 free-less b k h zero i l m = absurd (omega arith)
 free-less b k h (suc n) i l m =
     ⊎-elim (λ (e : i ≡ k). let x : taken b i ≡ 0 = rw e h in omega (arith, all-most b n (suc i)))
-    (λ (o : (i < k) ⊎ (k < i)). omega (arith, taken-most b i, free-less b k h n (suc i) (omega (arith, apart o)) (omega arith))) (tri i k)
+    (λ (o : (i < k) ⊎ (k < i)). omega
+    (arith, taken-most b i, free-less b k h n (suc i) (omega (arith, apart o)) (omega arith))) (tri i k)
   where
     all-most : (b : Bench) (n i : ℕ) → takenFrom b n i ≤ n
     all-most b zero i = omega arith
@@ -53,7 +54,8 @@ unfolding takenFrom lowest
 full-all b zero i = λ h. refl
 full-all b (suc n) i = by (isFree b i) (full-all b n (suc i))
   where
-    by : (x : Bool) → (suc i + n ≤ lowest (isFree b) n (suc i) → takenFrom b n (suc i) ≡ n) → i + suc n ≤ cond x i (lowest (isFree b) n (suc i)) → cond x 0 1 + takenFrom b n (suc i) ≡ suc n
+    by : (x : Bool) → (suc i + n ≤ lowest (isFree b) n (suc i) → takenFrom b n (suc i) ≡ n)
+        → i + suc n ≤ cond x i (lowest (isFree b) n (suc i)) → cond x 0 1 + takenFrom b n (suc i) ≡ suc n
     by true r h = absurd (omega arith)
     by false r h = omega (arith, r (omega arith))
 
@@ -75,8 +77,10 @@ module _ (b c : Bench) (k : ℕ) (same : (i : ℕ) → i ≢ k → taken c i ≡
   unfolding takenFrom
   one-less p q zero i h l = absurd (omega arith)
   one-less p q (suc n) i h l =
-      ⊎-elim (λ (e : i ≡ k). let x : taken b i ≡ 1 = rw e p in let y : taken c i ≡ 0 = rw e q in omega (arith, behind n (suc i) (omega arith)))
-      (λ (o : (i < k) ⊎ (k < i)). omega (arith, same i (apart o), one-less p q n (suc i) (omega (arith, apart o)) (omega arith))) (tri i k)
+      ⊎-elim (λ (e : i ≡ k). let x : taken b i ≡ 1 = rw e p in let y : taken c i ≡ 0 =
+      rw e q in omega (arith, behind n (suc i) (omega arith)))
+      (λ (o : (i < k) ⊎ (k < i)). omega
+      (arith, same i (apart o), one-less p q n (suc i) (omega (arith, apart o)) (omega arith))) (tri i k)
 
   pub one-same : taken b k ≡ taken c k → (n i : ℕ) → takenFrom c n i ≡ takenFrom b n i
   unfolding takenFrom
@@ -100,11 +104,19 @@ module _ (b : Bench) (k : ℕ) where
   module _ (l : k < 32) (w : length (b .counts) ≡ 32) where
     counted-here : (x : ℕ) → taken (counted b k x) k ≡ 1
     unfolding counted isFree
-    counted-here x = rw (getD-set-same (b .counts) k (getD (b .counts) k 0 + 1) 0 (omega arith), ne-eqb (getD (b .counts) k 0 + 1) 0 (λ e. omega arith))
+    counted-here x = rw (
+      getD-set-same (b .counts) k (getD (b .counts) k 0 + 1) 0 (omega arith),
+      ne-eqb (getD (b .counts) k 0 + 1) 0 (λ e. omega arith),
+    )
 
     pub counted-new : (x : ℕ) → getD (b .counts) k 0 ≡ 0 → live (counted b k x) ≡ live b + 1
     counted-new x h =
-        omega (arith, counted-live x, one-less (counted b k x) b k (λ i n. sym (counted-other x i n)) (counted-here x) (taken-not b k h) 32 0 (omega arith) (omega arith))
+        omega (
+          arith,
+          counted-live x,
+          one-less (counted b k x) b k
+              (λ i n. sym (counted-other x i n)) (counted-here x) (taken-not b k h) 32 0 (omega arith) (omega arith),
+        )
 
     pub counted-old : (x : ℕ) → 0 < getD (b .counts) k 0 → live (counted b k x) ≡ live b
     counted-old x h = one-same b (counted b k x) k (counted-other x) (taken-so b k h ∙ sym (counted-here x)) 32 0
@@ -113,11 +125,14 @@ module _ (b : Bench) (k : ℕ) where
     dropped-here : taken (dropped b k) k ≡ 0
     unfolding dropped isFree
     dropped-here =
-        let m : k < length (b .counts) = ⊎-elim (λ (z : length (b .counts) ≤ k). absurd (omega (arith, getD-past (b .counts) k z))) (λ (z : k < length (b .counts)). z) (le-or-lt (length (b .counts)) k) in
+        let m : k < length (b .counts) =
+        ⊎-elim (λ (z : length (b .counts) ≤ k). absurd (omega (arith, getD-past (b .counts) k z)))
+        (λ (z : k < length (b .counts)). z) (le-or-lt (length (b .counts)) k) in
         rw (getD-set-same (b .counts) k 0 0 m)
 
     pub dropped-live : live (dropped b k) + 1 ≤ live b
-    dropped-live = one-less b (dropped b k) k dropped-other (taken-so b k h) dropped-here 32 0 (omega arith) (omega arith)
+    dropped-live = one-less b (dropped b k) k dropped-other (taken-so b k h) dropped-here 32 0 (omega arith)
+        (omega arith)
 
     pub dropped-one : live b ≡ live (dropped b k) + 1
     dropped-one = omega (arith, dropped-live, one-more (dropped b k) b k (λ i n. sym (dropped-other i n)) 32 0)

@@ -34,12 +34,14 @@ use Rattle.call_pages.specs.Crowded.Places.{live, taken-not, free-less, 
 without-absent : (x : ℕ) (l : List ℕ) → elem x l ≡ false → without x l ≡ l
 unfolding without elem
 without-absent x [] h = refl
-without-absent x (y ∷ l) h = by-test (eqb x y) (λ q. absurd (never-both (rw q) h)) (λ q. rw q (ap (λ m. y ∷ m) (without-absent x l (rw q at h))))
+without-absent x (y ∷ l) h =
+    by-test (eqb x y) (λ q. absurd (never-both (rw q) h)) (λ q. rw q (ap (λ m. y ∷ m) (without-absent x l (rw q at h))))
 
 without-length : (x : ℕ) (l : List ℕ) → elem x l ≡ true → length l ≡ length (without x l) + 1
 unfolding without elem
 without-length x [] h = let z : _≡_ {A = ℕ} 0 1 = cc in absurd (omega arith)
-without-length x (y ∷ l) h = by-test (eqb x y) (λ q. rw q (omega arith)) (λ q. rw q (omega (arith, without-length x l (rw q at h))))
+without-length x (y ∷ l) h =
+    by-test (eqb x y) (λ q. rw q (omega arith)) (λ q. rw q (omega (arith, without-length x l (rw q at h))))
 
 without-other : (x y : ℕ) (l : List ℕ) → y ≢ x → elem y (without x l) ≡ elem y l
 unfolding without elem
@@ -52,7 +54,8 @@ without-other x y (z ∷ l) n =
 without-same : (x : ℕ) (l : List ℕ) → lists.Distinct l → elem x (without x l) ≡ false
 unfolding without elem lists.Distinct
 without-same x [] d = refl
-without-same x (z ∷ l) d = by-test (eqb x z) (λ q. rw q (rw (eqb-true x z q) (d .0))) (λ q. rw q (rw (q, without-same x l (d .1))))
+without-same x (z ∷ l) d =
+    by-test (eqb x z) (λ q. rw q (rw (eqb-true x z q) (d .0))) (λ q. rw q (rw (q, without-same x l (d .1))))
 
 without-distinct : (x : ℕ) (l : List ℕ) → lists.Distinct l → lists.Distinct (without x l)
 unfolding without lists.Distinct
@@ -83,16 +86,20 @@ unfolding lowest
 none-at b x zero i k h l = λ m. absurd (omega arith)
 none-at b x (suc n) i k h l = by (isAt b x i) refl (λ g m. none-at b x n (suc i) k g (omega arith) m)
   where
-    by : (y : Bool) → isAt b x i ≡ y → (suc i ≤ k → suc i + n ≤ lowest (isAt b x) n (suc i) → isAt b x k ≡ false) → i + suc n ≤ cond y i (lowest (isAt b x) n (suc i)) → isAt b x k ≡ false
+    by : (y : Bool) → isAt b x i ≡ y → (suc i ≤ k → suc i + n ≤ lowest (isAt b x) n (suc i) → isAt b x k ≡ false)
+        → i + suc n ≤ cond y i (lowest (isAt b x) n (suc i)) → isAt b x k ≡ false
     by true e r m = absurd (omega arith)
-    by false e r m = ⊎-elim (λ (q : i ≡ k). rw (← q) e) (λ (o : (i < k) ⊎ (k < i)). r (omega (arith, apart o)) (omega arith)) (tri i k)
+    by false e r m = ⊎-elim (λ (q : i ≡ k). rw (← q) e)
+        (λ (o : (i < k) ⊎ (k < i)). r (omega (arith, apart o)) (omega arith)) (tri i k)
 
 module _ (b : Bench) (l : List ℕ) (c : ℕ → ℕ) (k : Keeps b l c) (x : ℕ) where
   inside : (i : ℕ) → 0 < getD (b .counts) i 0 → i < 32
-  inside i h = ⊎-elim (λ (z : 32 ≤ i). absurd (omega (arith, getD-past (b .counts) i (omega (arith, k .whole .counts))))) (λ (z : i < 32). z) (le-or-lt 32 i)
+  inside i h = ⊎-elim (λ (z : 32 ≤ i). absurd
+      (omega (arith, getD-past (b .counts) i (omega (arith, k .whole .counts))))) (λ (z : i < 32). z) (le-or-lt 32 i)
 
   live-here : (i : ℕ) → 0 < getD (b .counts) i 0 → getD (b .sessions) i 0 ≡ x → elem x l ≡ true
-  live-here i h e = let p : getD (b .counts) i 0 ≡ c x = k .agrees .live i h ∙ ap c e in k .elems x ∙ some-elem {n = c x} (omega arith)
+  live-here i h e = let p : getD (b .counts) i 0 ≡ c x = k .agrees .live i h ∙ ap c e in k .elems x
+      ∙ some-elem {n = c x} (omega arith)
 
   nowhere : ((i : ℕ) → 0 < getD (b .counts) i 0 → getD (b .sessions) i 0 ≡ x → ⊥) → elem x l ≡ false
   nowhere n = k .elems x ∙ none-elem (k .agrees .absent x n)
@@ -102,26 +109,38 @@ module _ (b : Bench) (l : List ℕ) (c : ℕ → ℕ) (k : Keeps b l c) (x : ℕ
   at-so i h e = rw (ne-eqb (getD (b .counts) i 0) 0 (λ z. omega arith), eq-eqb (getD (b .sessions) i 0) x e)
 
   no-place : 32 ≤ placeOf b x → elem x l ≡ false
-  no-place h = nowhere (λ i g e. never-both (at-so i g e) (none-at b x 32 0 i (omega arith) (omega (arith, inside i g)) (omega arith)))
+  no-place h = nowhere (λ i g e. never-both (at-so i g e)
+      (none-at b x 32 0 i (omega arith) (omega (arith, inside i g)) (omega arith)))
 
   no-free : 32 ≤ placeFor b x → 32 ≤ freePlace b
   unfolding placeFor
-  no-free = cond-ind (ltb (placeOf b x) 32) (placeOf b x) (freePlace b) (λ m. 32 ≤ m → 32 ≤ freePlace b) (λ t h. absurd (omega (arith, ltb-true (placeOf b x) 32 t))) (λ t h. h)
+  no-free = cond-ind (ltb (placeOf b x) 32) (placeOf b x) (freePlace b) (λ m. 32 ≤ m → 32 ≤ freePlace b)
+      (λ t h. absurd (omega (arith, ltb-true (placeOf b x) 32 t))) (λ t h. h)
 
   no-seat : 32 ≤ placeFor b x → (elem x l ≡ false) × (32 ≤ length l)
-  no-seat h = (nowhere (λ i g e. omega (arith, inside i g, only b x (k .whole) (k .apart) i g e)), omega (arith, k .count, full-all b 32 0 (no-free h)))
+  no-seat h = (
+    nowhere (λ i g e. omega (arith, inside i g, only b x (k .whole) (k .apart) i g e)),
+    omega (arith, k .count, full-all b 32 0 (no-free h)),
+  )
 
   -- a new session meets 32 live ones just where there is no place for it
   seat-test : ltb (placeFor b x) 32 ≡ not (not (elem x l) && leb 32 (length l))
   seat-test =
       ⊎-elim
       (λ (h : 32 ≤ placeFor b x). let (p, q) = no-seat h in rw (le-ltb (placeFor b x) 32 h, p, le-leb 32 (length l) q))
-      (λ (h : placeFor b x < 32). rw (lt-ltb (placeFor b x) 32 h) (by (seat-is b x (k .whole) h) h)) (le-or-lt 32 (placeFor b x))
+      (λ (h : placeFor b x < 32). rw (lt-ltb (placeFor b x) 32 h) (by (seat-is b x (k .whole) h) h))
+      (le-or-lt 32 (placeFor b x))
     where
       by : Seat b x (k .whole) (placeFor b x) → placeFor b x < 32 → true ≡ not (not (elem x l) && leb 32 (length l))
       by (inl (p, q)) h = rw (live-here (placeFor b x) p q)
       by (inr (p, q)) h =
-          let z : length l < 32 = omega (arith, k .count, free-less b (placeFor b x) (taken-not b (placeFor b x) p) 32 0 (omega arith) (omega arith)) in
+          let z : length l < 32 =
+          omega (
+            arith,
+            k .count,
+            free-less b (placeFor b x) (taken-not b (placeFor b x) p) 32 0 (omega arith)
+                (omega arith),
+          ) in
           rw (lt-leb 32 (length l) z, and-false (not (elem x l)))
 
   -- ---- one more, and one less
@@ -145,8 +164,10 @@ module _ (b : Bench) (l : List ℕ) (c : ℕ → ℕ) (k : Keeps b l c) (x : ℕ
     joined-count = by (seat-is b x (k .whole) m)
       where
         by : Seat b x (k .whole) (placeFor b x) → length (joined true x l) ≡ live (counted b (placeFor b x) x)
-        by (inl (p, q)) = rw (live-here (placeFor b x) p q) (k .count ∙ sym (counted-old b (placeFor b x) m (k .whole .counts) x p))
-        by (inr (p, q)) = rw (nowhere q) (omega (arith, k .count, counted-new b (placeFor b x) m (k .whole .counts) x p))
+        by (inl (p, q)) = rw (live-here (placeFor b x) p q)
+            (k .count ∙ sym (counted-old b (placeFor b x) m (k .whole .counts) x p))
+        by (inr (p, q)) = rw (nowhere q)
+            (omega (arith, k .count, counted-new b (placeFor b x) m (k .whole .counts) x p))
 
     keeps-counted : Keeps (counted b (placeFor b x) x) (joined true x l) (onto c x)
     keeps-counted = record {
@@ -186,7 +207,13 @@ like-adds bs next c d a = record { ends = a .ends; ended = a .ended; faults = a 
 
 like-done : (bs : List ℕ) (i n : ℕ) → Alike (adds bs i (done i n)) (done i 0)
 unfolding Ends Faults
-like-done bs i n = record { ends = λ j m e. (e .0, refl); ended = λ j e. (n, (e .0, refl)); faults = λ m p e. absurd e; faulted = λ m p e. absurd e }
+like-done bs i n = record {
+  ends = λ j m e. (e .0, refl);
+  ended = λ j e. (n, (e .0, refl));
+  faults =
+      λ m p e. absurd e;
+  faulted = λ m p e. absurd e;
+}
 
 like-fault : (n p : ℕ) → Alike (fault n p) (fault n p)
 unfolding Ends
@@ -200,38 +227,56 @@ module _ (w : Watch) (at next : ℕ) (more : Bench → Course) (then : List ℕ 
     drops-like =
         by-test (eqb (w .close) 1)
         (λ p. by-test (ltb (placeOf b (w .session)) 32)
-        (λ q. rw (p, q) (like-adds _ next _ _ (rec (dropped b (placeOf b (w .session))) (without (w .session) l) (tally.without c (w .session)) (keeps-dropped b l c k (w .session) (ltb-true _ _ q)))))
+        (λ q. rw (p, q) (like-adds _ next
+        _ _ (rec (dropped b (placeOf b (w .session))) (without (w .session) l) (tally.without c (w .session))
+        (keeps-dropped b l c k (w .session) (ltb-true _ _ q)))))
         (λ q. rw (p, q, without-absent (w .session) l (no-place b l c k (w .session) (ltb-false _ _ q))) (rec b l c k)))
         (λ p. rw p (rec b l c k))
 
   counts-like : (b : Bench) (l : List ℕ) (c : ℕ → ℕ) → Keeps b l c → (x : Bool)
       → Alike (counts x b w at next (λ d. drops (closes d w) d w next more))
-      (cond (x && (not (elem (w .session) l) && leb 32 (length l))) (fault 21 at) (then (parted (w .close) (w .session) (joined x (w .session) l))))
+      (cond (x && (not (elem (w .session) l) && leb 32 (length l))) (fault 21 at)
+      (then (parted (w .close) (w .session) (joined x (w .session) l))))
   unfolding counts seats joined
   counts-like b l c k true =
-      like-adds _ next _ _ (rw (seat-test b l c k (w .session)) (by (not (elem (w .session) l) && leb 32 (length l)) refl))
+      like-adds _ next _ _ (rw (seat-test b l c k (w .session))
+      (by (not (elem (w .session) l) && leb 32 (length l)) refl))
     where
       by : (y : Bool) → (not (elem (w .session) l) && leb 32 (length l)) ≡ y
-          → Alike (cond (not y) (drops (closes (counted b (placeFor b (w .session)) (w .session)) w) (counted b (placeFor b (w .session)) (w .session)) w next more) (fault 21 at))
+          → Alike (cond (not y)
+          (drops (closes (counted b (placeFor b (w .session)) (w .session)) w)
+          (counted b (placeFor b (w .session)) (w .session)) w next more) (fault 21 at))
           (cond y (fault 21 at) (then (parted (w .close) (w .session) (joined true (w .session) l))))
       by true e = like-fault 21 at
       by false e =
-          drops-like (counted b (placeFor b (w .session)) (w .session)) (joined true (w .session) l) (onto c (w .session))
+          drops-like (counted b (placeFor b (w .session)) (w .session)) (joined true (w .session) l)
+          (onto c (w .session))
           (keeps-counted b l c k (w .session) (ltb-true _ _ (seat-test b l c k (w .session) ∙ ap not e)))
   counts-like b l c k false = drops-like b l c k
 
-bench-like : (ends : Steps) (b : Bench) (l : List ℕ) (c : ℕ → ℕ) (before : Watch) (n : ℕ) → Keeps b l c → Alike (benchedFrom b before n ends) (crowdedFrom before l ends)
+bench-like : (ends : Steps) (b : Bench) (l : List ℕ) (c : ℕ → ℕ) (before : Watch) (n : ℕ) → Keeps b l c
+    → Alike (benchedFrom b before n ends) (crowdedFrom before l ends)
 unfolding benchedFrom crowdedFrom
 bench-like (steps.step w at next rest) b l c before n k =
-    counts-like w at next (λ d. benchedFrom d w (n + 1) rest) (λ m. crowdedFrom w m rest) (λ d m e h. bench-like rest d m e w (n + 1) h) b l c k (rose before w)
+    counts-like w at next (λ d. benchedFrom d w (n + 1) rest) (λ m. crowdedFrom w m rest)
+    (λ d m e h. bench-like rest d m e w (n + 1) h) b l c k (rose before w)
 bench-like (steps.done read) b l c before n k = like-done _ read n
 bench-like (steps.refused m p) b l c before n k = like-fault m p
 
 keeps-none : Keeps empty [] (λ x. 0)
 unfolding elem lists.Distinct
-keeps-none = record { whole = empty-whole; apart = empty-distinct; agrees = empty-agrees; elems = λ x. refl; single = tt; count = sym live-none }
+keeps-none = record {
+  whole = empty-whole;
+  apart = empty-distinct;
+  agrees = empty-agrees;
+  elems = λ x. refl;
+  single =
+      tt;
+  count = sym live-none;
+}
 
 -- the bench ends, and is refused, as the step ends and the list of live sessions say
-pub benched-crowded : (names : Names) (s values : List ℕ) → Told (λ i. Ends i 0 (crowded names s values)) (λ n p. Faults n p (crowded names s values)) (benched names s values)
+pub benched-crowded : (names : Names) (s values : List ℕ) → Told (λ i. Ends i 0 (crowded names s values))
+    (λ n p. Faults n p (crowded names s values)) (benched names s values)
 unfolding benched crowded
 benched-crowded names s values = bench-like (stepEnds names s values) empty [] (λ x. 0) unseen 0 keeps-none
