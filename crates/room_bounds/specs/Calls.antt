@@ -2,7 +2,7 @@
 -- Assumes nothing.
 use Prim.Native.Nat.{ℕ, _≤_}
 use mathlib.Core.Path.{_≡_}
-use mathlib.Core.Logic.{_≢_, _⊎_, inl, inr}
+use mathlib.Core.Logic.{_≢_, inl, inr}
 use mathlib.Core.Bool.{Bool, true, false}
 use native.Mathlib.Omega.{arith}
 use lib.ListN.{length}
@@ -10,7 +10,7 @@ use Rattle.tables.specs.Checks.{unless}
 use Rattle.tables.specs.declared.Check.{Check}
 use Rattle.tables.specs.declared.Check.the-variants.{Passed, Refused}
 use Rattle.answers.specs.Outcome.{LeftKept}
-use Rattle.courses.specs.Course.{Course, bytesOf, Overflows}
+use Rattle.courses.specs.Course.{Course, bytesOf}
 use Rattle.courses.specs.Course.Laws.{over-more}
 use Rattle.call_pages.specs.Exact.{Why, Exact}
 pub mod Ruled

@@ -1,10 +1,8 @@
 -- What acts cost, and scans whose acts never cost more than a budget for the bytes that were read.
 -- Assumes nothing.
 use Prim.Native.Nat.{ℕ, _+_, _≤_}
-use mathlib.Core.Path.{_≡_, refl, sym, subst}
 use mathlib.Core.List.{List, [], _∷_, _++_}
 use native.Mathlib.Omega.{arith}
-use lib.ListN.{length}
 use Rattle.rules.specs.Gather.{Act}
 use Rattle.gather.specs.Run.{Scan, say, done, fault}
 use Rattle.gather.specs.Run.Events.{Says}

@@ -1,19 +1,19 @@
 -- Every event but a time owns a write: acts make at most as many such events as there are writes among them, each as
 -- wide as its signal.
 -- Assumes nothing.
-use Prim.Native.Nat.{ℕ, zero, suc, _+_, _*_, _≤_}
-use mathlib.Core.Path.{_≡_, refl, sym, ap, _∙_}
+use Prim.Native.Nat.{ℕ, zero, suc, _+_, _≤_}
+use mathlib.Core.Path.{_≡_, refl, sym, ap}
 use mathlib.Core.Bool.{Bool, true, false, cond, _&&_, false≢true}
 use mathlib.Core.List.{List, [], _∷_, _++_, map}
 use native.Mathlib.Omega.{arith}
-use lib.ListN.{length, getD, length-append}
-use lib.Dec.{leb, eqb}
+use lib.ListN.{length}
+use lib.Dec.{eqb}
 use borrow.Author.Tests.{eqb-true, eqb-false}
 use Rattle.slices.specs.Choice.{cond-ind}
-use Rattle.rules.specs.Vector.{Write, put, Cause, rewritten, complete, ended, Item, began, wrote, shown, over, Vec, all, any, cleared, fires, clashes, stored, act}
-use Rattle.rules.specs.Vector.Laws.{by-test, never-both, not-true-is-false, any-none, Wide, wide-cleared, wide-stored, wide-fires, cleared-any, clashed, fired-any}
-use Rattle.rules.specs.Gather.{Tables, width, Act, time, write, stepEnd, Happening, at, single, of, ends, State, begin, with, elem, list, endAll, bitWrite, toVector, toward, does, happens}
-use Rattle.rules.specs.Gather.Laws.{with-same, with-other, elem-head, elem-cons, list-again, list-new, Distinct, Sound, sound-begin, sound-does}
+use Rattle.rules.specs.Vector.{Write, put, Cause, rewritten, complete, ended, Item, began, wrote, shown, over, Vec, all, any, fires, clashes, stored, act}
+use Rattle.rules.specs.Vector.Laws.{by-test, never-both, not-true-is-false, any-none, Wide, wide-stored, wide-fires, cleared-any, clashed, fired-any}
+use Rattle.rules.specs.Gather.{Tables, width, Act, time, write, stepEnd, Happening, at, single, of, ends, State, begin, with, elem, endAll, bitWrite, toVector, toward, does, happens}
+use Rattle.rules.specs.Gather.Laws.{with-same, with-other, list-again, list-new, Distinct, Sound, sound-begin, sound-does}
 
 -- ---- counts
 

@@ -1,11 +1,10 @@
 -- With room for 13 bytes of events and the widest value for each byte of sections, or for every 6 of change records,
 -- no event fails to fit.
 -- Assumes nothing.
-use Prim.Native.Nat.{ℕ, _+_, _*_, _/_, _≤_, _<_}
+use Prim.Native.Nat.{ℕ, _+_, _*_, _/_, _≤_}
 use mathlib.Core.Path.{_≡_, refl, sym, ap, _∙_}
-use mathlib.Core.Logic.{_≢_, _⊎_, inl, inr}
-use mathlib.Core.Bool.{Bool, true, false, _&&_, false≢true}
-use mathlib.Core.Option.{some}
+use mathlib.Core.Logic.{_≢_, inl, inr}
+use mathlib.Core.Bool.{Bool, true, false, false≢true}
 use mathlib.Core.List.{List, [], _∷_, _++_, append-assoc}
 use native.Mathlib.Nat.{mul-le-mul-right}
 use native.Mathlib.Omega.{arith}
@@ -14,18 +13,16 @@ use lib.ListN.{length, length-append}
 use Rattle.tables.specs.Lists.{Lists, nth}
 use Rattle.tables.specs.Good as tables
 use Rattle.tables.specs.Good.Laws as good
-use Rattle.tables.specs.declared.Check.the-variants.{Passed, Refused}
-use Rattle.values.specs.declared.Read.the-variants.{Value}
-use Rattle.values.specs.Value.{value}
+use Rattle.tables.specs.declared.Check.the-variants.{Passed}
 use Rattle.values.specs.Value.Laws.{value-next}
 use Rattle.rules.specs.Vector.{actsEarly}
 use Rattle.rules.specs.Gather.{Act, time, write, stepEnd, Happening, at, single, of, ends, State, begin, happens}
-use Rattle.rules.specs.Gather.Laws.{happens-append, stateAfter}
+use Rattle.rules.specs.Gather.Laws.{happens-append}
 use Rattle.records.specs.Event.{Event, recordBytes, recordOf, eventValue}
 use Rattle.records.specs.Event as event
-use Rattle.records.specs.Out.{Rooms, Out, empty, fits, appendAll}
+use Rattle.records.specs.Out.{Rooms, empty, fits}
 use Rattle.gather.specs.Run.{gathers, alone, ofVector, eventsOf, Scan}
-use Rattle.gather.specs.Run.Rendered.{valuesOf, stepsOf, Misfit}
+use Rattle.gather.specs.Run.Rendered.{valuesOf, stepsOf}
 use Rattle.gather.specs.Run.Rendered.Laws.{all-rendered}
 use Rattle.gather.specs.Run.Events.{Says, made, later, Overflows}
 use Rattle.gather.specs.Run.Times.{timesOf, made-steps}
@@ -40,7 +37,7 @@ use Rattle.entries.specs.Demands.{Demand2, sections-2, changes-2}
 use Rattle.room_bounds.specs.Rooms.{widest, sectionEvents, sectionValues, changeEvents, changeValues}
 use Rattle.room_bounds.specs.Rooms.Laws.{Widest, widest-is}
 use Rattle.room_bounds.specs.Gathered.{writesIn, shownIn, few-shown, all-sized}
-use Rattle.room_bounds.specs.Costs.{costs, Covers, covers-said}
+use Rattle.room_bounds.specs.Costs.{costs, covers-said}
 use Rattle.room_bounds.specs.Costs.Sections as section
 use Rattle.room_bounds.specs.Costs.Changes as change
 use Rattle.room_bounds.specs.Sizes.{sizeOf, rendered-size, size-append, values-append, one-size, one-value, events-size, values-size}

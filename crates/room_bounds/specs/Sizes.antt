@@ -1,21 +1,20 @@
 -- How long the records and the values of events are.
 -- Assumes nothing.
 use Prim.Native.Nat.{ℕ, _+_, _*_, _≤_}
-use mathlib.Core.Path.{_≡_, refl, sym, ap, _∙_}
-use mathlib.Core.Bool.{Bool, true, false}
-use mathlib.Core.List.{List, [], _∷_, _++_, append-assoc}
-use native.Mathlib.Nat.{add-mul, mul-comm}
+use mathlib.Core.Path.{_≡_, refl, ap, _∙_}
+use mathlib.Core.List.{List, [], _∷_, _++_}
+use native.Mathlib.Nat.{add-mul}
 use native.Mathlib.Omega.{arith}
-use borrow.Author.Tests.{leb-false, eqb-true}
+use borrow.Author.Tests.{eqb-true}
 use lib.ListN.{length, getD, length-append}
 use lib.Dec.{leb, eqb}
 use Rattle.slices.specs.Choice.{cond-ind}
 use Rattle.numbers.specs.Fixed.{bigBytes}
-use Rattle.states.specs.Kind.{bytesRequired, stateOf}
+use Rattle.states.specs.Kind.{stateOf}
 use Rattle.states.specs.Packed.{packed}
 use Rattle.states.specs.Packed.Bytes.{length-packed}
 use Rattle.tables.specs.Lists.{Lists, nth}
-use Rattle.rules.specs.Vector.{Item, began, wrote, shown, over}
+use Rattle.rules.specs.Vector.{began, wrote, shown, over}
 use Rattle.rules.specs.Gather.{width, Happening, at, single, of, ends}
 use Rattle.records.specs.Event.{Event, time, value, real, recordBytes, recordOf, eventValue, eventSteps}
 use Rattle.gather.specs.Run.{gathers, alone, ofVector, eventsOf}

@@ -6,9 +6,8 @@ use mathlib.Core.Logic.{_≢_, _⊎_, ⊎-elim}
 use mathlib.Core.Bool.{Bool, true, false, cond}
 use native.Mathlib.Omega.{arith}
 use borrow.Author.Tests.{eq-eqb, ne-eqb}
-use lib.ListN.{length, getD, set}
+use lib.ListN.{length, getD}
 use lib.Seq.{getD-set-same, getD-set-other}
-use lib.Dec.{eqb}
 use Rattle.slices.specs.Choice.{cond-ind, le-or-lt, tri, apart}
 use Rattle.states.specs.Packed.Bytes.{getD-past}
 use Rattle.sessions.specs.declared.Bench.{Bench}

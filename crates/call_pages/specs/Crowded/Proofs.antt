@@ -1,17 +1,17 @@
 -- The bench is refused with 21 just where a new session meets 32 live ones.
 -- Assumes nothing.
 use Prim.Native.Nat.{ℕ, zero, suc, _+_, _≤_, _<_}
-use mathlib.Core.Path.{_≡_, refl, sym, ap, subst, _∙_}
+use mathlib.Core.Path.{_≡_, refl, sym, ap, _∙_}
 use mathlib.Core.Logic.{_≢_, _⊎_, inl, inr, ⊎-elim}
-use mathlib.Core.Bool.{Bool, true, false, not, cond, _&&_, _||_, and-false}
+use mathlib.Core.Bool.{Bool, true, false, not, cond, _&&_, and-false}
 use mathlib.Core.List.{List, [], _∷_}
 use native.Mathlib.Omega.{arith}
-use borrow.Author.Tests.{leb-true, leb-false, le-leb, lt-leb, lt-ltb, le-ltb, ltb-true, ltb-false, eqb-true, eqb-false, eq-eqb, ne-eqb}
+use borrow.Author.Tests.{le-leb, lt-leb, lt-ltb, le-ltb, ltb-true, ltb-false, eqb-true, eqb-false, eq-eqb, ne-eqb}
 use lib.ListN.{length, getD}
 use lib.Dec.{ltb, leb, eqb}
 use Rattle.slices.specs.Choice.{cond-ind, le-or-lt, tri, apart}
 use Rattle.states.specs.Packed.Bytes.{getD-past}
-use Rattle.rules.specs.Vector.Laws.{by-test, never-both, not-true-is-false}
+use Rattle.rules.specs.Vector.Laws.{by-test, never-both}
 use Rattle.rules.specs.Gather.{elem}
 use Rattle.rules.specs.Gather.Laws as lists
 use Rattle.step_ends.specs.declared.Names.{Names}
@@ -23,7 +23,7 @@ use Rattle.sessions.specs.Places.{lowest, isFree, isAt, placeOf, freePlace, pla
 use Rattle.sessions.specs.Places.Laws.{Whole, counted-whole, dropped-whole, empty-whole, Distinct, empty-distinct, place-is, Seat, seat-is, only, counted-distinct, dropped-distinct}
 use Rattle.sessions.specs.Places.Laws.Tally.{onto, Agrees, empty-agrees, counted-agrees, dropped-agrees}
 use Rattle.sessions.specs.Places.Laws.Tally as tally
-use Rattle.fragments.specs.Counting.{closes, closedOf}
+use Rattle.fragments.specs.Counting.{closes}
 use Rattle.courses.specs.Course.{Course, adds, done, fault, Ends, Faults, Told}
 use Rattle.courses.specs.Benched.{seats, counts, drops, benchedFrom, benched}
 use Rattle.call_pages.specs.Crowded.{without, joined, parted, crowdedFrom, crowded}

@@ -12,9 +12,7 @@ use Rattle.tables.specs.Checks.{unless, andThen}
 use Rattle.tables.specs.declared.Check.{Check}
 use Rattle.tables.specs.declared.Check.the-variants.{Passed, Refused}
 use Rattle.checks.specs.Checked.{checksWithoutRoom, without-number}
-use Rattle.written.specs.Ended.{Ended, wrote}
 use Rattle.written.specs.Ended as ended
-use Rattle.gather.specs.Run.{Scan}
 use Rattle.gather.specs.Run.Events as scan
 use Rattle.section_parts.specs.Sections.{scanSections}
 use Rattle.section_parts.specs.Sections.Stepped.{sections-number}
@@ -27,7 +25,6 @@ use Rattle.encoder.specs.Rule.Keeping.Refusals.{rule-refuses}
 use Rattle.sections_writer.specs.Writer as writer
 use Rattle.read_back.specs.ReadBack as back
 use Rattle.reread.specs.Reread.Refused.{Comes, Own, writes-as, Full, gives-as}
-use Rattle.fragments.specs.Counting.{countFragments}
 use Rattle.fragments.specs.Theorems.{Closes}
 use Rattle.fragments.specs.Theorems.Proofs.{closes}
 use Rattle.step_ends.specs.declared.Names.{Names}
@@ -40,15 +37,14 @@ use Rattle.entries.specs.Entries.Keeps as keeping
 use Rattle.entries.specs.Written.{writeSections, readBack}
 use Rattle.bench.specs.Bench as benching
 use Rattle.courses.specs.Course.{Course, Ends, Faults, Told, fill}
-use Rattle.courses.specs.Ruled.{ruled, read}
+use Rattle.courses.specs.Ruled.{ruled}
 use Rattle.courses.specs.Ruled.Laws.{endedOf, ruled-fills, ruled-reads}
-use Rattle.courses.specs.Written.{written, orderly}
+use Rattle.courses.specs.Written.{written}
 use Rattle.courses.specs.Written.Laws.{written-fills, written-orderly}
 use Rattle.courses.specs.GivenBack.{givenBack}
 use Rattle.courses.specs.GivenBack.Laws.{back-fills, given-told}
 use Rattle.courses.specs.Benched.{benched}
 use Rattle.courses.specs.Benched.Laws.{benched-fills}
-use Rattle.call_pages.specs.Exact.{Exact}
 use Rattle.call_pages.specs.Crowded.Proofs.{benched-crowded}
 use Rattle.call_pages.specs.Exact.Proofs.{calls, exact, only}
 use Rattle.call_pages.specs.Pages.{Shaped, ruleChecks, RulePage, benchChecks, BenchPage, WritePage, BackPage}

@@ -4,8 +4,6 @@ use Prim.Native.Nat.{ℕ, _+_}
 use mathlib.Core.Path.{_≡_, refl, sym, ap, _∙_}
 use mathlib.Core.Bool.{Bool, true, false, cond}
 use mathlib.Core.List.{List, [], _∷_, _++_, append-assoc, append-nil}
-use native.Mathlib.Nat.{add-zero}
-use native.Mathlib.Omega.{arith}
 use lib.ListN.{length, length-append}
 use lib.Dec.{ltb, leb}
 use Rattle.written.specs.Ended.{Ended}
@@ -19,7 +17,7 @@ use Rattle.sessions.specs.Places.{placeOf, placeFor, counted, dropped, empty}
 use Rattle.fragments.specs.Output.{Out, fragment, outBytes, bytesOf, heldOf}
 use Rattle.fragments.specs.Output.Laws.{bytes-append, bytes-one}
 use Rattle.fragments.specs.Counting.{Does, went, stops, seated, closes, closedOf, behind, andThen, counting, closing, stepEnd, finished, onDoes, runs, countFragments}
-use Rattle.courses.specs.Course.{Course, adds, fault, fill}
+use Rattle.courses.specs.Course.{Course, fault, fill}
 use Rattle.courses.specs.Benched.{seats, counts, drops, benchedFrom, benched}
 
 bytes-more : (a : List Out) (o : Out) → bytesOf (a ++ o ∷ []) ≡ bytesOf a ++ outBytes o

@@ -1,17 +1,16 @@
 -- A course fills a room with its bytes where they fit, and is refused for just the reasons that are named.
 -- Assumes nothing.
 use Prim.Native.Nat.{ℕ, _+_, _≤_, _<_}
-use mathlib.Core.Path.{_≡_, refl, sym, _∙_}
+use mathlib.Core.Path.{_≡_, sym, _∙_}
 use mathlib.Core.Logic.{_⊎_, inl, inr}
-use mathlib.Core.Bool.{cond}
-use mathlib.Core.List.{List, [], _++_, append-assoc, append-nil}
+use mathlib.Core.List.{List, _++_, append-assoc, append-nil}
 use native.Mathlib.Omega.{arith}
 use borrow.Author.Tests.{leb-true, leb-false, le-leb, lt-leb}
 use lib.ListN.{length, length-append}
 use lib.Dec.{leb}
 use Rattle.slices.specs.Choice.{cond-ind}
-use Rattle.written.specs.Ended.{Ended, wrote, refused}
-use Rattle.courses.specs.Course.{Course, adds, done, fault, bytesOf, Ends, Faults, Overflows, Refusal, fill}
+use Rattle.written.specs.Ended.{wrote, refused}
+use Rattle.courses.specs.Course.{Course, adds, done, fault, bytesOf, Ends, Faults, Overflows, fill}
 
 module _ (room : ℕ) where
   -- ---- each reason has its end

@@ -1,14 +1,13 @@
 -- Sections that are written fill the room with their course, which ends where the scan does that is in order.
 -- Assumes nothing.
 use Prim.Native.Nat.{ℕ, zero, suc, _+_}
-use mathlib.Core.Path.{_≡_, refl, sym, ap, _∙_}
+use mathlib.Core.Path.{_≡_, refl, ap}
 use mathlib.Core.Bool.{Bool, true, false, not, cond}
 use mathlib.Core.List.{List, [], _∷_, _++_}
 use native.Mathlib.Omega.{arith}
 use borrow.Author.Tests.{ne-eqb}
 use lib.ListN.{length}
 use lib.Dec.{ltb, leb, eqb}
-use Rattle.slices.specs.Choice.{cond-ind}
 use Rattle.written.specs.Ended.{Ended, wrote, refused}
 use Rattle.tables.specs.Lists.{Lists, nth}
 use Rattle.rules.specs.Gather.{Act, time, write, stepEnd}

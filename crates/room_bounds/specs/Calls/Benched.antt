@@ -4,15 +4,15 @@
 use Prim.Native.Nat.{ℕ, zero, suc, _+_, _*_, _≤_, _<_}
 use mathlib.Core.Path.{_≡_, refl, sym, ap, _∙_}
 use mathlib.Core.Logic.{_≢_}
-use mathlib.Core.Bool.{Bool, true, false, cond, _&&_}
-use mathlib.Core.List.{List, [], _∷_, _++_}
+use mathlib.Core.Bool.{Bool, true, false, cond}
+use mathlib.Core.List.{List, [], _∷_}
 use native.Mathlib.Omega.{arith}
 use borrow.Author.Tests.{ltb-true}
-use lib.ListN.{length, getD, set, length-append}
+use lib.ListN.{length, getD, length-append}
 use lib.Dec.{ltb, eqb}
 use Rattle.slices.specs.Choice.{cond-ind}
 use Rattle.numbers.specs.Fixed.{bigBytes}
-use Rattle.tables.specs.Checks.{unless, andThen}
+use Rattle.tables.specs.Checks.{andThen}
 use Rattle.tables.specs.Checks.Laws.{both}
 use Rattle.tables.specs.declared.Check.{Check}
 use Rattle.tables.specs.declared.Check.the-variants.{Passed, Refused}
@@ -23,12 +23,12 @@ use Rattle.step_ends.specs.Steps as steps
 use Rattle.sessions.specs.declared.Bench.{Bench}
 use Rattle.sessions.specs.Places.{isFree, placeOf, placeFor, counted, dropped, empty}
 use Rattle.sessions.specs.Places.Laws.{place-is}
-use Rattle.fragments.specs.Output.{Out, fragment, closed, held, outBytes, heldAt, heldFrom, heldOf}
+use Rattle.fragments.specs.Output.{fragment, closed, held, outBytes, heldAt, heldFrom, heldOf}
 use Rattle.fragments.specs.Output as output
 use Rattle.fragments.specs.Output.Laws.{bytes-append}
 use Rattle.fragments.specs.Counting.{closes, closedOf}
 use Rattle.bench.specs.Bench as benching
-use Rattle.courses.specs.Course.{Course, adds, fault, bytesOf, Faults}
+use Rattle.courses.specs.Course.{Course, bytesOf, Faults}
 use Rattle.courses.specs.Benched.{seats, counts, drops, benchedFrom, benched}
 use Rattle.call_pages.specs.Crowded.Places.{taken, takenFrom, live, counted-live, dropped-live, live-none}
 use Rattle.call_pages.specs.Crowded.Proofs.{benched-crowded}

@@ -4,10 +4,10 @@
 use Prim.Native.Nat.{ℕ, _+_, _*_, _≤_, _<_}
 use mathlib.Core.Path.{_≡_, refl, sym, ap, _∙_}
 use mathlib.Core.Logic.{_≢_, ⊎-elim}
-use mathlib.Core.Bool.{Bool, true, false, cond, true≢false}
-use mathlib.Core.List.{List, []}
+use mathlib.Core.Bool.{Bool, true, false, true≢false}
+use mathlib.Core.List.{List}
 use native.Mathlib.Omega.{arith}
-use borrow.Author.Tests.{leb-true, leb-false}
+use borrow.Author.Tests.{leb-false}
 use lib.ListN.{length, length-append}
 use lib.Dec.{leb}
 use Rattle.slices.specs.Choice.{cond-ind, le-or-lt}
@@ -26,7 +26,7 @@ use Rattle.section_parts.specs.Sections.{scanSections}
 use Rattle.section_parts.specs.Sections.Stepped.{sections-number}
 use Rattle.read_back.specs.ReadBack.{writeOf, recordOf, times}
 use Rattle.entries.specs.Written.{readBack}
-use Rattle.courses.specs.Course.{Course, bytesOf}
+use Rattle.courses.specs.Course.{bytesOf}
 use Rattle.courses.specs.GivenBack.{givenFrom, givenBack}
 use Rattle.call_pages.specs.Pages.Proofs.{back-page}
 use Rattle.room_bounds.specs.Rooms.{hasNumber, backRoom}

@@ -1,19 +1,18 @@
 -- Every rise of the strobe but the first takes two steps and two events of the strobe, 44 bytes; the first takes one
 -- of each, 22.
 -- Assumes nothing.
-use Prim.Native.Nat.{ℕ, zero, suc, _+_, _*_, _≤_, _<_}
-use mathlib.Core.Path.{_≡_, refl, sym, ap, subst, _∙_}
+use Prim.Native.Nat.{ℕ, zero, suc, _+_, _*_, _≤_}
+use mathlib.Core.Path.{_≡_, refl, sym, _∙_}
 use mathlib.Core.Logic.{_≢_}
-use mathlib.Core.Bool.{Bool, true, false, cond, _&&_, _||_, false≢true, true≢false}
+use mathlib.Core.Bool.{Bool, true, false, cond, _&&_, _||_, true≢false}
 use mathlib.Core.List.{List}
 use native.Mathlib.Omega.{arith}
-use borrow.Author.Tests.{eqb-true, eqb-false, eq-eqb}
+use borrow.Author.Tests.{eqb-true, eq-eqb}
 use lib.ListN.{length, getD}
 use lib.Dec.{eqb}
 use Rattle.slices.specs.Choice.{cond-ind}
 use Rattle.slices.specs.Splice.{part}
 use Rattle.numbers.specs.Fixed.{big}
-use Rattle.states.specs.declared.States.{States}
 use Rattle.rules.specs.Vector.Laws.{by-test}
 use Rattle.records.specs.declared.Record.{Record}
 use Rattle.records.specs.declared.Record.the-variants.{Time, Value, Real}
@@ -28,7 +27,7 @@ use Rattle.step_ends.specs.declared.Line.the-variants.{Session, Strobe, Close, 
 use Rattle.step_ends.specs.declared.Watch.{Watch}
 use Rattle.step_ends.specs.declared.Seen.{Seen}
 use Rattle.step_ends.specs.declared.Seen.the-variants.{More, Step, End, Bad}
-use Rattle.step_ends.specs.Steps.{lineOf, suits, opened, shows, seeTime, seeValue, seeReal, seeEvent, seeNext, see, Steps, step, done, refused, lastStep, onSeen, unseen, stepsFrom, stepEnds, rose, risesFrom, rises}
+use Rattle.step_ends.specs.Steps.{lineOf, suits, shows, seeTime, seeValue, seeReal, seeEvent, seeNext, see, Steps, step, done, refused, lastStep, onSeen, unseen, stepsFrom, stepEnds, rose, risesFrom, rises}
 
 -- ---- how long a record is
 

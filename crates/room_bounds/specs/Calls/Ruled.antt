@@ -20,7 +20,7 @@ use Rattle.encoder.specs.Rule.Keeping.{unset}
 use Rattle.encoder.specs.Rule.Keeping.Laws.{next-is}
 use Rattle.entries.specs.Entries.{applyTimeRule}
 use Rattle.entries.specs.Entries.Keeps as keeping
-use Rattle.courses.specs.Course.{Course, bytesOf, Faults}
+use Rattle.courses.specs.Course.{bytesOf, Faults}
 use Rattle.courses.specs.Ruled.{onRecord, rulesFrom, ruled, onNext, readFrom, read}
 use Rattle.call_pages.specs.Pages.{ruleChecks}
 use Rattle.call_pages.specs.Pages.Proofs.{rule-page}

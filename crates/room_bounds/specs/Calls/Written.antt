@@ -2,26 +2,24 @@
 -- bytes open and close the section.
 -- Assumes nothing.
 use Prim.Native.Nat.{ℕ, zero, suc, _+_, _*_, _-_, _^_, _≤_, _<_}
-use mathlib.Core.Path.{_≡_, refl, sym, _∙_}
+use mathlib.Core.Path.{_≡_, refl}
 use mathlib.Core.Logic.{_≢_, _⊎_, inl, inr, ⊎-elim}
-use mathlib.Core.Bool.{Bool, true, false, not, cond}
+use mathlib.Core.Bool.{Bool, true, false}
 use mathlib.Core.List.{List, [], _∷_, _++_}
 use native.Mathlib.Omega.{arith}
-use borrow.Author.Tests.{leb-true, leb-false, ne-eqb}
-use lib.ListN.{length, length-append, length-replicate, replicate}
+use borrow.Author.Tests.{leb-false, ne-eqb}
+use lib.ListN.{length, length-append, replicate}
 use lib.Dec.{ltb, leb, eqb}
 use Rattle.slices.specs.Choice.{cond-ind, le-or-lt}
-use Rattle.numbers.specs.Marks.{cyc, ecy, tai}
+use Rattle.numbers.specs.Marks.{ecy, tai}
 use Rattle.written.specs.Shortest.{unsignedBytes, signedBytes}
 use Rattle.written.specs.Shortest.Groups.{unsigned-short}
 use Rattle.written.specs.Shortest.Laws.{bytes-most}
-use Rattle.written.specs.Little.{littleBytes, fixedBytes}
 use Rattle.written.specs.Little.Laws.{length-littleBytes, length-fixedBytes}
 use Rattle.tables.specs.Lists.{Lists, nth, signals}
-use Rattle.tables.specs.Checks.{check1, check2}
 use Rattle.tables.specs.Checks.Laws.{then-passed}
 use Rattle.tables.specs.Good.Laws as good
-use Rattle.tables.specs.declared.Check.the-variants.{Passed, Refused}
+use Rattle.tables.specs.declared.Check.the-variants.{Passed}
 use Rattle.checks.specs.Checked.{checksWithoutRoom, without-number}
 use Rattle.rules.specs.Vector.Laws.{by-test}
 use Rattle.rules.specs.Gather.{time, write, stepEnd}
@@ -35,7 +33,7 @@ use Rattle.changes.specs.Changes.Steps.{changes-number}
 use Rattle.sections_writer.specs.declared.Pen.{Pen}
 use Rattle.sections_writer.specs.Writer.{goes, ends, stops, timeBytes, timeGood, timed, valueBytes, writeBytes, wroteTo, stepped, cycleEnd, closing, givenTime, givenWrite, given, begin}
 use Rattle.entries.specs.Written.{writeSections}
-use Rattle.courses.specs.Course.{Course, adds, done, bytesOf}
+use Rattle.courses.specs.Course.{Course, done, bytesOf}
 use Rattle.courses.specs.Written.{onGiven, writtenFrom, written, follows, inOrder, orderly}
 use Rattle.call_pages.specs.Pages.Proofs.{write-page}
 use Rattle.room_bounds.specs.Rooms.{writeRoom}

@@ -1,8 +1,8 @@
 -- No value of tables that pass check 2 is wider than the widest.
 -- Assumes nothing.
-use Prim.Native.Nat.{ℕ, zero, suc, _+_, _*_, _≤_, _<_}
-use mathlib.Core.Path.{_≡_, refl}
-use mathlib.Core.Bool.{Bool, true, false, cond}
+use Prim.Native.Nat.{ℕ, zero, suc, _≤_, _<_}
+use mathlib.Core.Path.{_≡_}
+use mathlib.Core.Bool.{true, cond}
 use mathlib.Core.Logic.{⊎-elim}
 use mathlib.Core.List.{List, [], _∷_}
 use native.Mathlib.Omega.{arith}
@@ -10,7 +10,7 @@ use borrow.Author.Tests.{leb-true, leb-false, eq-eqb}
 use lib.ListN.{length, getD}
 use lib.Dec.{leb, eqb}
 use Rattle.slices.specs.Choice.{cond-ind, le-or-lt}
-use Rattle.states.specs.Kind.{bytesRequired, stateOf}
+use Rattle.states.specs.Kind.{bytesRequired}
 use Rattle.states.specs.Packed.Bytes.{getD-past}
 use Rattle.tables.specs.Lists.{Lists, nth, vectors}
 use Rattle.tables.specs.Good as tables
