@@ -15,10 +15,12 @@ pub mod Proofs
 abbrev pub reported : LeftKept → List ℕ
 reported x = take (x .answer .events) (x .kept)
 
--- `checks` are the call's own, `course` is what it has to write; `ends` and `faults` say where the input is read to its end
+-- `checks` are the call's own, `course` is what it has to write; `ends` and `faults` say where the input is read to
+-- its end
 -- and what its first fault is
 module _ (checks : Check) (ends : ℕ → Type 0) (faults : ℕ → ℕ → Type 0) (room : ℕ) (course : Course) where
-  -- a refusal's number and place: those of the first check; of the first fault, where all before it fits; or 16, at the next
+  -- a refusal's number and place: those of the first check; of the first fault, where all before it fits; or 16, at
+  -- the next
   -- unread byte behind what does not fit
   abbrev pub Why : (n p : ℕ) → Type 0
   Why n p =

@@ -1,3 +1,4 @@
 -- Assumes nothing.
 pub mod Exact
+pub mod Crowded
 pub mod Pages

@@ -21,6 +21,7 @@ use Rattle.courses.specs.Written.{written, orderly}
 use Rattle.courses.specs.GivenBack.{givenBack}
 use Rattle.courses.specs.Benched.{benched}
 use Rattle.call_pages.specs.Exact.{Exact}
+use Rattle.call_pages.specs.Crowded.{crowded}
 pub mod Proofs
 
 -- demand 1 of document 01, as far as a call with one output needs it: the answer's fields, and the whole of its buffer
@@ -39,7 +40,8 @@ ruleChecks s values room = unless (keeping.limitsOf s values room) 1
 -- the first fault is the first record that is refused, by the records alone
 abbrev pub RulePage : List ℕ → (values room : ℕ) → LeftKept → Type 0
 RulePage s values room =
-    Exact (ruleChecks s values room) (λ i. Ends i 0 (read s values)) (λ n p. Faults n p (read s values)) room (ruled s values)
+    Exact (ruleChecks s values room) (λ i. Ends i 0 (read s values))
+    (λ n p. Faults n p (read s values)) room (ruled s values)
 
 -- ---- the bench
 
@@ -48,19 +50,23 @@ abbrev pub benchChecks : (events values : List ℕ) → (session strobe close ro
 benchChecks events values session strobe close room =
     andThen (unless (benching.limitsOf events values room) 1) (unless (benching.apart session strobe close) 34)
 
+-- the first fault is that of the step ends, or a new session that meets 32 live ones
 abbrev pub BenchPage : (events values : List ℕ) → (session strobe close room : ℕ) → LeftKept → Type 0
 BenchPage events values session strobe close room =
-    let c = benched (benching.named session strobe close) events values in
-    Exact (benchChecks events values session strobe close room) (λ i. (n : ℕ) × Ends i n c) (λ n p. Faults n p c) room c
+    let names = benching.named session strobe close in
+    Exact (benchChecks events values session strobe close room) (λ i. Ends i 0 (crowded names events values))
+    (λ n p. Faults n p (crowded names events values)) room (benched names events values)
 
 -- ---- sections written and read back
 
 -- the first fault is that of change reading's scan, or the first act that is not in order
 abbrev pub WritePage : Lists → Bool → List ℕ → (room : ℕ) → LeftKept → Type 0
 WritePage t flag s room =
-    Exact (checksWithoutRoom t (length s) room) (λ i. scan.Ends i (orderly t s)) (λ n p. scan.Faults n p (orderly t s)) room (written t flag s)
+    Exact (checksWithoutRoom t (length s) room) (λ i. scan.Ends i (orderly t s))
+    (λ n p. scan.Faults n p (orderly t s)) room (written t flag s)
 
 abbrev pub BackPage : Lists → Bool → List ℕ → (room : ℕ) → LeftKept → Type 0
 BackPage t flag s room =
-    Exact (checksWithoutRoom t (length s) room) (λ i. scan.Ends i (scanSections t flag s)) (λ n p. scan.Faults n p (scanSections t flag s)) room
+    Exact (checksWithoutRoom t (length s) room) (λ i. scan.Ends i (scanSections t flag s))
+    (λ n p. scan.Faults n p (scanSections t flag s)) room
     (givenBack t flag s)

@@ -1,4 +1,5 @@
--- What the bench has to write, from the step ends of its events: a fragment at each rise of the strobe, a closing where a live session is dropped,
+-- What the bench has to write, from the step ends of its events: a fragment at each rise of the strobe, a closing
+-- where a live session is dropped,
 -- and what is held at the input's end.
 -- Assumes nothing.
 use Prim.Native.Nat.{ℕ, _+_}
@@ -17,9 +18,11 @@ use Rattle.fragments.specs.Counting.{closes, closedOf}
 use Rattle.courses.specs.Course.{Course, adds, done, fault}
 pub mod Laws
 
--- "21 when a new session meets 32 live ones, after all of 01's": so behind the fragment, which has to fit; "at the record ending the step"
+-- "21 when a new session meets 32 live ones, after all of 01's": so behind the fragment, which has to fit; "at the
+-- record ending the step"
 unfoldable pub seats : Bench → Watch → (at : ℕ) → (Bench → Course) → Course
-seats b w at more = cond (ltb (placeFor b (w .session)) 32) (more (counted b (placeFor b (w .session)) (w .session))) (fault 21 at)
+seats b w at more = cond (ltb (placeFor b (w .session)) 32) (more (counted b (placeFor b (w .session)) (w .session)))
+    (fault 21 at)
 
 -- "where the strobe stands at 1 and stood at 0 .., one fragment is counted to the session value then shown"
 unfoldable pub counts : Bool → Bench → Watch → (at next : ℕ) → (Bench → Course) → Course

@@ -1,4 +1,5 @@
--- What the time rule has to write: the records that its clock keeps, up to the input's end or the first record that is refused.
+-- What the time rule has to write: the records that its clock keeps, up to the input's end or the first record that
+-- is refused.
 -- Assumes nothing.
 use Prim.Native.Nat.{ℕ, zero, suc, _+_, _-_}
 use mathlib.Core.Bool.{Bool, true, false, cond}

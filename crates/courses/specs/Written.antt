@@ -1,4 +1,5 @@
--- What a change stream becomes: the bytes of each record, and the closing ones; and where it stops, said of the scan that change reading makes.
+-- What a change stream becomes: the bytes of each record, and the closing ones; and where it stops, said of the scan
+-- that change reading makes.
 -- Assumes nothing.
 use Prim.Native.Nat.{ℕ, zero, suc, _-_, _^_}
 use mathlib.Core.Bool.{Bool, true, false, cond, _&&_}
@@ -23,7 +24,8 @@ module _ (t : Lists) (flag : Bool) (s : List ℕ) where
 
   unfoldable pub writtenFrom : (fuel : ℕ) → Pen → ℕ → Course
   writtenFrom zero p i = onGiven p (given t flag s p i (nextChange t s (p .inside) i)) (λ q j. done j (q .steps))
-  writtenFrom (suc fuel) p i = onGiven p (given t flag s p i (nextChange t s (p .inside) i)) (λ q j. writtenFrom fuel q j)
+  writtenFrom (suc fuel) p i = onGiven p (given t flag s p i (nextChange t s (p .inside) i))
+      (λ q j. writtenFrom fuel q j)
 
   unfoldable pub written : Course
   written = writtenFrom (length s) begin 0
@@ -34,12 +36,15 @@ module _ (t : Lists) (flag : Bool) (s : List ℕ) where
 unfoldable pub follows : (u v : ℕ) → Bool
 follows u v = leb u v && leb (v - u) (2 ^ 63 - 1)
 
--- the scan up to its first act that breaks this, or "ids rise strictly within a step": "22 ids not rising, 23 time falls or jumps too far, both at the record".
+-- the scan up to its first act that breaks this, or "ids rise strictly within a step": "22 ids not rising, 23 time
+-- falls or jumps too far, both at the record".
 -- `begun`: there was a time, `u`; `id` is the step's last; `i` the record's first byte
 unfoldable pub inOrder : (begun : Bool) (u id i : ℕ) → Scan → Scan
 inOrder false u id i (say (time v) p rest) = say (time v) p (inOrder true v 0 p rest)
-inOrder true u id i (say (time v) p rest) = cond (follows u v) (say (time v) p (inOrder true v 0 p rest)) (run.fault 23 i)
-inOrder begun u id i (say (write k x q) p rest) = cond (ltb id k) (say (write k x q) p (inOrder begun u k p rest)) (run.fault 22 i)
+inOrder true u id i (say (time v) p rest) =
+    cond (follows u v) (say (time v) p (inOrder true v 0 p rest)) (run.fault 23 i)
+inOrder begun u id i (say (write k x q) p rest) =
+    cond (ltb id k) (say (write k x q) p (inOrder begun u k p rest)) (run.fault 22 i)
 inOrder begun u id i (say stepEnd p rest) = say stepEnd p (inOrder begun u id p rest)
 inOrder begun u id i (run.done j) = run.done j
 inOrder begun u id i (run.fault n p) = run.fault n p

@@ -2,7 +2,7 @@
 -- Assumes nothing.
 use Prim.Native.Nat.{ℕ, _≤_}
 use mathlib.Core.Path.{_≡_}
-use mathlib.Core.Logic.{_≢_, _⊎_, inl, inr}
+use mathlib.Core.Logic.{_≢_, inl, inr}
 use mathlib.Core.Bool.{Bool, true, false}
 use native.Mathlib.Omega.{arith}
 use lib.ListN.{length}
@@ -10,7 +10,7 @@ use Rattle.tables.specs.Checks.{unless}
 use Rattle.tables.specs.declared.Check.{Check}
 use Rattle.tables.specs.declared.Check.the-variants.{Passed, Refused}
 use Rattle.answers.specs.Outcome.{LeftKept}
-use Rattle.courses.specs.Course.{Course, bytesOf, Overflows}
+use Rattle.courses.specs.Course.{Course, bytesOf}
 use Rattle.courses.specs.Course.Laws.{over-more}
 use Rattle.call_pages.specs.Exact.{Why, Exact}
 pub mod Ruled
@@ -20,7 +20,8 @@ pub mod Rises
 pub mod Benched
 
 module _ (checks : Check) (ends : ℕ → Type 0) (faults : ℕ → ℕ → Type 0) (room : ℕ) (c : Course) where
-  pub not-full : (x : LeftKept) → Exact checks ends faults room c x → ((p : ℕ) → checks ≡ Refused 16 p → ⊥) → ((p : ℕ) → faults 16 p → ⊥)
+  pub not-full : (x : LeftKept) → Exact checks ends faults room c x → ((p : ℕ) → checks ≡ Refused 16 p → ⊥)
+      → ((p : ℕ) → faults 16 p → ⊥)
       → (checks ≡ Passed → length (bytesOf c) ≤ room) → x .answer .number ≢ 16
   not-full x e k f h z = by (x .answer .place) (rw z at (e .refuses (λ o. omega arith)))
     where

@@ -1,4 +1,5 @@
--- How much room is always enough for each call, from its tables and the length of its input. A host that lends so much never sees 16.
+-- How much room is always enough for each call, from its tables and the length of its input. A host that lends so
+-- much never sees 16.
 -- Assumes nothing.
 use Prim.Native.Nat.{ℕ, zero, suc, _+_, _*_, _/_}
 use mathlib.Core.Bool.{Bool, false, cond, _||_}

@@ -1,21 +1,20 @@
 -- How long the records and the values of events are.
 -- Assumes nothing.
 use Prim.Native.Nat.{ℕ, _+_, _*_, _≤_}
-use mathlib.Core.Path.{_≡_, refl, sym, ap, _∙_}
-use mathlib.Core.Bool.{Bool, true, false}
-use mathlib.Core.List.{List, [], _∷_, _++_, append-assoc}
-use native.Mathlib.Nat.{add-mul, mul-comm}
+use mathlib.Core.Path.{_≡_, refl, ap, _∙_}
+use mathlib.Core.List.{List, [], _∷_, _++_}
+use native.Mathlib.Nat.{add-mul}
 use native.Mathlib.Omega.{arith}
-use borrow.Author.Tests.{leb-false, eqb-true}
+use borrow.Author.Tests.{eqb-true}
 use lib.ListN.{length, getD, length-append}
 use lib.Dec.{leb, eqb}
 use Rattle.slices.specs.Choice.{cond-ind}
 use Rattle.numbers.specs.Fixed.{bigBytes}
-use Rattle.states.specs.Kind.{bytesRequired, stateOf}
+use Rattle.states.specs.Kind.{stateOf}
 use Rattle.states.specs.Packed.{packed}
 use Rattle.states.specs.Packed.Bytes.{length-packed}
 use Rattle.tables.specs.Lists.{Lists, nth}
-use Rattle.rules.specs.Vector.{Item, began, wrote, shown, over}
+use Rattle.rules.specs.Vector.{began, wrote, shown, over}
 use Rattle.rules.specs.Gather.{width, Happening, at, single, of, ends}
 use Rattle.records.specs.Event.{Event, time, value, real, recordBytes, recordOf, eventValue, eventSteps}
 use Rattle.gather.specs.Run.{gathers, alone, ofVector, eventsOf}
@@ -52,23 +51,29 @@ values-append (e ∷ a) b =
     let q = length-append (eventValue e) (valuesOf a) in
     omega (arith, values-append a b)
 
-pub one-size : (a : List Event) (e : Event) (b : List Event) → sizeOf a + sizeOf (e ∷ b) ≡ sizeOf a + (length (recordBytes (recordOf 0 e)) + sizeOf b)
+pub one-size : (a : List Event) (e : Event) (b : List Event)
+    → sizeOf a + sizeOf (e ∷ b) ≡ sizeOf a + (length (recordBytes (recordOf 0 e)) + sizeOf b)
 unfolding sizeOf
 one-size a e b = refl
 
 pub one-value : (a : List Event) (e : Event) (b : List Event)
-    → length (valuesOf a) + length (valuesOf (e ∷ b)) ≡ length (valuesOf a) + (length (eventValue e) + length (valuesOf b))
+    → length (valuesOf a) + length (valuesOf (e ∷ b)) ≡ length (valuesOf a)
+    + (length (eventValue e) + length (valuesOf b))
 unfolding valuesOf
 one-value a e b = ap (λ (n : ℕ). length (valuesOf a) + n) (length-append (eventValue e) (valuesOf b))
 
 module _ (t : Lists) where
   -- of a signal outside vectors
-  alone-long : (kind reference v : ℕ) → (length (recordBytes (recordOf 0 (alone kind reference v))) ≡ 13) × (eventSteps (alone kind reference v) ≡ 0)
+  alone-long : (kind reference v : ℕ) → (length (recordBytes (recordOf 0 (alone kind reference v))) ≡ 13)
+      × (eventSteps (alone kind reference v) ≡ 0)
   unfolding alone recordBytes recordOf bigBytes eventSteps
   alone-long kind reference v =
-      cond-ind (leb kind 1) _ _ (λ e. (length (recordBytes (recordOf 0 e)) ≡ 13) × (eventSteps e ≡ 0)) (λ a. (refl, refl))
-      (λ a. cond-ind (leb kind 4) _ _ (λ e. (length (recordBytes (recordOf 0 e)) ≡ 13) × (eventSteps e ≡ 0)) (λ b. (refl, refl))
-      (λ b. cond-ind (eqb kind 5) _ _ (λ e. (length (recordBytes (recordOf 0 e)) ≡ 13) × (eventSteps e ≡ 0)) (λ c. (refl, refl)) (λ c. (refl, refl))))
+      cond-ind (leb kind 1) _ _ (λ e. (length (recordBytes (recordOf 0 e)) ≡ 13) × (eventSteps e ≡ 0))
+      (λ a. (refl, refl))
+      (λ a. cond-ind (leb kind 4) _ _ (λ e. (length (recordBytes (recordOf 0 e)) ≡ 13) × (eventSteps e ≡ 0))
+      (λ b. (refl, refl))
+      (λ b. cond-ind (eqb kind 5) _ _ (λ e. (length (recordBytes (recordOf 0 e)) ≡ 13) × (eventSteps e ≡ 0))
+      (λ c. (refl, refl)) (λ c. (refl, refl))))
 
   -- a time's record has 9 bytes, every other 13
   pub events-size : (h : List Happening) → sizeOf (eventsOf t h) ≡ 13 * shownIn h + 9 * stepsOf (eventsOf t h)
@@ -91,12 +96,14 @@ module _ (t : Lists) where
         let one = k .plain in
         cond-ind (leb (nth (t .kinds) i) 1) _ _ (λ e. length (eventValue e) ≤ w) (λ a. omega arith)
         (λ a. cond-ind (leb (nth (t .kinds) i) 4) _ _ (λ e. length (eventValue e) ≤ w) (λ b. omega arith)
-        (λ b. cond-ind (eqb (nth (t .kinds) i) 5) _ _ (λ e. length (eventValue e) ≤ w) (λ c. k .number i (eqb-true _ _ c)) (λ c. omega arith)))
+        (λ b. cond-ind (eqb (nth (t .kinds) i) 5) _ _ (λ e. length (eventValue e) ≤ w)
+        (λ c. k .number i (eqb-true _ _ c)) (λ c. omega arith)))
 
     more : (n : ℕ) → (1 + n) * w ≡ w + n * w
     more n = add-mul 1 n w ∙ omega arith
 
-    vector-value : (v : ℕ) (l : List ℕ) → length l ≡ width (gathers t) v → length (packed (stateOf (getD (t .states) v 0)) l) ≡ vectorBytes t v
+    vector-value : (v : ℕ) (l : List ℕ) → length l ≡ width (gathers t) v
+        → length (packed (stateOf (getD (t .states) v 0)) l) ≡ vectorBytes t v
     unfolding vectorBytes
     vector-value v l e = length-packed (stateOf (getD (t .states) v 0)) l ∙ rw e
 

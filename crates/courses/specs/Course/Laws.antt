@@ -1,17 +1,16 @@
 -- A course fills a room with its bytes where they fit, and is refused for just the reasons that are named.
 -- Assumes nothing.
 use Prim.Native.Nat.{ℕ, _+_, _≤_, _<_}
-use mathlib.Core.Path.{_≡_, refl, sym, _∙_}
+use mathlib.Core.Path.{_≡_, sym, _∙_}
 use mathlib.Core.Logic.{_⊎_, inl, inr}
-use mathlib.Core.Bool.{cond}
-use mathlib.Core.List.{List, [], _++_, append-assoc, append-nil}
+use mathlib.Core.List.{List, _++_, append-assoc, append-nil}
 use native.Mathlib.Omega.{arith}
 use borrow.Author.Tests.{leb-true, leb-false, le-leb, lt-leb}
 use lib.ListN.{length, length-append}
 use lib.Dec.{leb}
 use Rattle.slices.specs.Choice.{cond-ind}
-use Rattle.written.specs.Ended.{Ended, wrote, refused}
-use Rattle.courses.specs.Course.{Course, adds, done, fault, bytesOf, Ends, Faults, Overflows, Refusal, fill}
+use Rattle.written.specs.Ended.{wrote, refused}
+use Rattle.courses.specs.Course.{Course, adds, done, fault, bytesOf, Ends, Faults, Overflows, fill}
 
 module _ (room : ℕ) where
   -- ---- each reason has its end
@@ -55,7 +54,8 @@ module _ (room : ℕ) where
   abbrev pub RefusedFrom : Course → (m n p : ℕ) → Type 0
   RefusedFrom c m n p = (Faults n p c × (m + length (bytesOf c) ≤ room)) ⊎ ((n ≡ 16) × Overflows room m c p)
 
-  pub filled-so : (c : Course) (out : List ℕ) (i : ℕ) (bs : List ℕ) (n : ℕ) → length out ≤ room → fill room c out ≡ wrote i bs n
+  pub filled-so : (c : Course) (out : List ℕ) (i : ℕ) (bs : List ℕ) (n : ℕ) → length out ≤ room
+      → fill room c out ≡ wrote i bs n
       → Filled c out i bs n
   unfolding fill Ends bytesOf
   filled-so (adds xs next rest) out i bs n l =
@@ -69,7 +69,8 @@ module _ (room : ℕ) where
       record { ended = ((cc), (cc)); bytes = sym a ∙ sym (append-nil out); fits = rw (← a) l }
   filled-so (fault m p) out i bs n l = λ e. let z : _≡_ {A = ℕ} 0 1 = cc in absurd (omega arith)
 
-  from-next : (bs : List ℕ) (next : ℕ) (rest : Course) (m n p : ℕ) → m + length bs ≤ room → RefusedFrom rest (m + length bs) n p
+  from-next : (bs : List ℕ) (next : ℕ) (rest : Course) (m n p : ℕ) → m + length bs ≤ room
+      → RefusedFrom rest (m + length bs) n p
       → RefusedFrom (adds bs next rest) m n p
   unfolding Faults Overflows bytesOf
   from-next bs next rest m n p h (inl (f, l)) = inl (f, omega (arith, length-append bs (bytesOf rest)))
@@ -79,7 +80,8 @@ module _ (room : ℕ) where
       → RefusedFrom c (length out) n p
   unfolding fill Faults bytesOf Overflows
   refused-so (adds xs next rest) out n p l =
-      cond-ind (leb (length out + length xs) room) _ _ (λ e. e ≡ refused n p → RefusedFrom (adds xs next rest) (length out) n p)
+      cond-ind (leb (length out + length xs) room)
+      _ _ (λ e. e ≡ refused n p → RefusedFrom (adds xs next rest) (length out) n p)
       (λ h e.
       let k : length out + length xs ≤ room = leb-true _ _ h in
       from-next xs next rest (length out) n p k
@@ -92,6 +94,7 @@ module _ (room : ℕ) where
   pub over-more : (c : Course) (m p : ℕ) → Overflows room m c p → room < m + length (bytesOf c)
   unfolding Overflows bytesOf
   over-more (adds bs next rest) m p (inl (h, e)) = omega (arith, length-append bs (bytesOf rest))
-  over-more (adds bs next rest) m p (inr (h, o)) = omega (arith, length-append bs (bytesOf rest), over-more rest (m + length bs) p o)
+  over-more (adds bs next rest) m p (inr (h, o)) =
+      omega (arith, length-append bs (bytesOf rest), over-more rest (m + length bs) p o)
   over-more (done i n) m p o = absurd o
   over-more (fault n q) m p o = absurd o

@@ -19,7 +19,9 @@ use Rattle.courses.specs.GivenBack.{givenFrom, givenBack}
 module _ (t : Lists) (room : ℕ) where
   giving-fills : (sc : Scan) (out : List ℕ) (n : ℕ) → giving t room sc out n ≡ fill room (givenFrom t n sc) out
   unfolding giving givenFrom fill
-  giving-fills (say a p rest) out n = ap (λ e. cond (leb (length out + length (recordOf t a)) room) e (refused 16 p)) (giving-fills rest (out ++ recordOf t a) (n + times a))
+  giving-fills (say a p rest) out n =
+      ap (λ e. cond (leb (length out + length (recordOf t a)) room) e (refused 16 p))
+      (giving-fills rest (out ++ recordOf t a) (n + times a))
   giving-fills (run.done i) out n = refl
   giving-fills (run.fault m p) out n = refl
 
@@ -28,8 +30,19 @@ module _ (t : Lists) (room : ℕ) where
   back-fills flag s = giving-fills (scanSections t flag s) [] 0
 
 -- where the scan ends, and with what it is refused
-pub given-told : (t : Lists) (sc : Scan) (n : ℕ) → Told (λ i. scan.Ends i sc) (λ m p. scan.Faults m p sc) (givenFrom t n sc)
+pub given-told : (t : Lists) (sc : Scan) (n : ℕ)
+    → Told (λ i. scan.Ends i sc) (λ m p. scan.Faults m p sc) (givenFrom t n sc)
 unfolding scan.Ends scan.Faults Ends Faults givenFrom
-given-told t (say a p rest) n = let r = given-told t rest (n + times a) in record { ends = r .ends; ended = r .ended; faults = r .faults; faulted = r .faulted }
-given-told t (run.done j) n = record { ends = λ i m e. e .0; ended = λ i e. (n, (e, refl)); faults = λ m p e. absurd e; faulted = λ m p e. absurd e }
-given-told t (run.fault k q) n = record { ends = λ i m e. absurd e; ended = λ i e. absurd e; faults = λ m p e. e; faulted = λ m p e. e }
+given-told t (say a p rest) n = let r =
+    given-told t rest (n + times a) in
+    record { ends = r .ends; ended = r .ended; faults = r .faults; faulted = r .faulted }
+given-told t (run.done j) n =
+    record {
+      ends = λ i m e. e .0;
+      ended = λ i e. (n, (e, refl));
+      faults = λ m p e. absurd e;
+      faulted =
+          λ m p e. absurd e;
+    }
+given-told t (run.fault k q) n =
+    record { ends = λ i m e. absurd e; ended = λ i e. absurd e; faults = λ m p e. e; faulted = λ m p e. e }

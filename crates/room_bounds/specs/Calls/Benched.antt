@@ -1,19 +1,18 @@
--- A rise of the strobe makes at most 34 bytes: a fragment, and a closing or what is held; so 12 bytes more than the events have are enough.
+-- A rise of the strobe makes at most 34 bytes: a fragment, and a closing or what is held; so 12 bytes more than the
+-- events have are enough.
 -- Assumes nothing.
 use Prim.Native.Nat.{ℕ, zero, suc, _+_, _*_, _≤_, _<_}
 use mathlib.Core.Path.{_≡_, refl, sym, ap, _∙_}
-use mathlib.Core.Logic.{_≢_, _⊎_, inl, inr, ⊎-elim}
-use mathlib.Core.Bool.{Bool, true, false, cond, _&&_}
-use mathlib.Core.List.{List, [], _∷_, _++_}
+use mathlib.Core.Logic.{_≢_}
+use mathlib.Core.Bool.{Bool, true, false, cond}
+use mathlib.Core.List.{List, [], _∷_}
 use native.Mathlib.Omega.{arith}
-use borrow.Author.Tests.{ltb-true, eq-eqb, ne-eqb, eqb-true}
-use lib.ListN.{length, getD, set, length-append}
-use lib.Seq.{getD-set-same, getD-set-other}
+use borrow.Author.Tests.{ltb-true}
+use lib.ListN.{length, getD, length-append}
 use lib.Dec.{ltb, eqb}
-use Rattle.slices.specs.Choice.{cond-ind, le-or-lt, tri, apart}
+use Rattle.slices.specs.Choice.{cond-ind}
 use Rattle.numbers.specs.Fixed.{bigBytes}
-use Rattle.states.specs.Packed.Bytes.{getD-past}
-use Rattle.tables.specs.Checks.{unless, andThen}
+use Rattle.tables.specs.Checks.{andThen}
 use Rattle.tables.specs.Checks.Laws.{both}
 use Rattle.tables.specs.declared.Check.{Check}
 use Rattle.tables.specs.declared.Check.the-variants.{Passed, Refused}
@@ -24,40 +23,29 @@ use Rattle.step_ends.specs.Steps as steps
 use Rattle.sessions.specs.declared.Bench.{Bench}
 use Rattle.sessions.specs.Places.{isFree, placeOf, placeFor, counted, dropped, empty}
 use Rattle.sessions.specs.Places.Laws.{place-is}
-use Rattle.fragments.specs.Output.{Out, fragment, closed, held, outBytes, heldAt, heldFrom, heldOf}
+use Rattle.fragments.specs.Output.{fragment, closed, held, outBytes, heldAt, heldFrom, heldOf}
 use Rattle.fragments.specs.Output as output
 use Rattle.fragments.specs.Output.Laws.{bytes-append}
 use Rattle.fragments.specs.Counting.{closes, closedOf}
 use Rattle.bench.specs.Bench as benching
-use Rattle.courses.specs.Course.{Course, adds, fault, bytesOf, Faults}
+use Rattle.courses.specs.Course.{Course, bytesOf, Faults}
 use Rattle.courses.specs.Benched.{seats, counts, drops, benchedFrom, benched}
+use Rattle.call_pages.specs.Crowded.Places.{taken, takenFrom, live, counted-live, dropped-live, live-none}
+use Rattle.call_pages.specs.Crowded.Proofs.{benched-crowded}
 use Rattle.call_pages.specs.Pages.{benchChecks}
 use Rattle.call_pages.specs.Pages.Proofs.{bench-page}
 use Rattle.room_bounds.specs.Rooms.{benchRoom}
 use Rattle.room_bounds.specs.Calls.{not-full, unless-not}
 use Rattle.room_bounds.specs.Calls.Rises.{rises-paid, Never, ends-never}
 
--- ---- live sessions
-
--- 1 where a place is taken
-abbrev taken : Bench → ℕ → ℕ
-taken b k = cond (isFree b k) 0 1
-
-unfoldable takenFrom : Bench → (n k : ℕ) → ℕ
-takenFrom b zero k = 0
-takenFrom b (suc n) k = taken b k + takenFrom b n (suc k)
-
-abbrev live : Bench → ℕ
-live b = takenFrom b 32 0
-
-taken-most : (b : Bench) (k : ℕ) → taken b k ≤ 1
-taken-most b k = cond-ind (isFree b k) _ _ (λ (n : ℕ). n ≤ 1) (λ e. omega arith) (λ e. omega arith)
+-- ---- what is held
 
 held-one : (b : Bench) (k : ℕ) → length (output.bytesOf (heldAt b k)) ≡ 13 * taken b k
 unfolding heldAt output.bytesOf outBytes bigBytes
 held-one b k = by (isFree b k)
   where
-    by : (x : Bool) → length (output.bytesOf (cond x [] (held (getD (b .sessions) k 0) (getD (b .counts) k 0) ∷ []))) ≡ 13 * cond x 0 1
+    by : (x : Bool) → length (output.bytesOf (cond x [] (held (getD (b .sessions) k 0) (getD (b .counts) k 0) ∷ [])))
+        ≡ 13 * cond x 0 1
     by true = refl
     by false = refl
 
@@ -65,46 +53,15 @@ held-one b k = by (isFree b k)
 held-long : (b : Bench) (n k : ℕ) → length (output.bytesOf (heldFrom b n k)) ≡ 13 * takenFrom b n k
 unfolding heldFrom takenFrom output.bytesOf
 held-long b zero k = refl
-held-long b (suc n) k = ap length (bytes-append (heldAt b k) (heldFrom b n (suc k))) ∙ (length-append (output.bytesOf (heldAt b k)) _ ∙ omega (arith, held-one b k, held-long b n (suc k)))
-
--- ---- one place changed
-
--- a bench whose counts differ at one place
-module _ (b c : Bench) (k : ℕ) (same : (i : ℕ) → i ≢ k → taken c i ≡ taken b i) where
-  behind : (n i : ℕ) → k < i → takenFrom c n i ≡ takenFrom b n i
-  unfolding takenFrom
-  behind zero i h = refl
-  behind (suc n) i h = omega (arith, same i (λ e. omega arith), behind n (suc i) (omega arith))
-
-  one-more : (n i : ℕ) → takenFrom c n i ≤ takenFrom b n i + 1
-  unfolding takenFrom
-  one-more zero i = omega arith
-  one-more (suc n) i =
-      ⊎-elim (λ (e : i ≡ k). omega (arith, taken-most c i, behind n (suc i) (omega arith)))
-      (λ (o : (i < k) ⊎ (k < i)). omega (arith, same i (apart o), one-more n (suc i))) (tri i k)
-
-  one-less : taken b k ≡ 1 → taken c k ≡ 0 → (n i : ℕ) → i ≤ k → k < i + n → takenFrom c n i + 1 ≤ takenFrom b n i
-  unfolding takenFrom
-  one-less p q zero i h l = absurd (omega arith)
-  one-less p q (suc n) i h l =
-      ⊎-elim (λ (e : i ≡ k). let x : taken b i ≡ 1 = rw e p in let y : taken c i ≡ 0 = rw e q in omega (arith, behind n (suc i) (omega arith)))
-      (λ (o : (i < k) ⊎ (k < i)). omega (arith, same i (apart o), one-less p q n (suc i) (omega (arith, apart o)) (omega arith))) (tri i k)
-
-counted-live : (b : Bench) (k x : ℕ) → live (counted b k x) ≤ live b + 1
-unfolding counted isFree
-counted-live b k x = one-more b (counted b k x) k (λ i n. rw (getD-set-other (b .counts) k i (getD (b .counts) k 0 + 1) 0 n)) 32 0
-
-dropped-live : (b : Bench) (k : ℕ) → 0 < getD (b .counts) k 0 → k < 32 → live (dropped b k) + 1 ≤ live b
-unfolding dropped isFree
-dropped-live b k h l =
-    let m : k < length (b .counts) = ⊎-elim (λ (z : length (b .counts) ≤ k). absurd (omega (arith, getD-past (b .counts) k z))) (λ (z : k < length (b .counts)). z) (le-or-lt (length (b .counts)) k) in
-    one-less b (dropped b k) k (λ i n. rw (getD-set-other (b .counts) k i 0 0 n)) (rw (ne-eqb (getD (b .counts) k 0) 0 (λ e. omega arith))) (rw (getD-set-same (b .counts) k 0 0 m)) 32 0 (omega arith) (omega arith)
+held-long b (suc n) k = ap length (bytes-append (heldAt b k) (heldFrom b n (suc k)))
+    ∙ (length-append (output.bytesOf (heldAt b k)) _ ∙ omega (arith, held-one b k, held-long b n (suc k)))
 
 -- ---- what is written
 
 closes-place : (b : Bench) (w : Watch) → closes b w ≡ true → placeOf b (w .session) < 32
 unfolding closes
-closes-place b w e = ltb-true (placeOf b (w .session)) 32 (both (eqb (w .close) 1) (ltb (placeOf b (w .session)) 32) e .1)
+closes-place b w e = ltb-true (placeOf b (w .session)) 32
+    (both (eqb (w .close) 1) (ltb (placeOf b (w .session)) 32) e .1)
 
 fragment-long : (u x : ℕ) → length (outBytes (fragment u x)) ≡ 13
 unfolding outBytes bigBytes
@@ -114,7 +71,8 @@ closed-long : (u x n : ℕ) → length (outBytes (closed u x n)) ≡ 21
 unfolding outBytes bigBytes
 closed-long u x n = refl
 
-module _ (w : Watch) (next : ℕ) (more : Bench → Course) (most : ℕ) (rec : (c : Bench) → length (bytesOf (more c)) ≤ most + 21 * live c) where
+module _ (w : Watch) (next : ℕ) (more : Bench → Course) (most : ℕ)
+    (rec : (c : Bench) → length (bytesOf (more c)) ≤ most + 21 * live c) where
   drops-long : (b : Bench) (x : Bool) → closes b w ≡ x → length (bytesOf (drops x b w next more)) ≤ most + 21 * live b
   unfolding drops bytesOf
   drops-long b true e =
@@ -128,30 +86,40 @@ module _ (w : Watch) (next : ℕ) (more : Bench → Course) (most : ℕ) (rec : 
       )
   drops-long b false e = rec b
 
-module _ (w : Watch) (at next : ℕ) (more : Bench → Course) (most : ℕ) (rec : (c : Bench) → length (bytesOf (more c)) ≤ most + 21 * live c) where
+module _ (w : Watch) (at next : ℕ) (more : Bench → Course) (most : ℕ)
+    (rec : (c : Bench) → length (bytesOf (more c)) ≤ most + 21 * live c) where
   seats-long : (b : Bench) → length (bytesOf (seats b w at more)) ≤ most + 21 * live b + 21
   unfolding seats bytesOf
   seats-long b =
       cond-ind (ltb (placeFor b (w .session)) 32) _ _ (λ c. length (bytesOf c) ≤ most + 21 * live b + 21)
-      (λ e. omega (arith, rec (counted b (placeFor b (w .session)) (w .session)), counted-live b (placeFor b (w .session)) (w .session))) (λ e. omega arith)
+      (λ e. omega (
+        arith,
+        rec (counted b (placeFor b (w .session)) (w .session)),
+        counted-live b (placeFor b (w .session)) (w .session),
+      )) (λ e. omega arith)
 
-  counts-long : (b : Bench) (x : Bool) → length (bytesOf (counts x b w at next more)) ≤ 34 * cond x 1 0 + most + 21 * live b
+  counts-long : (b : Bench) (x : Bool)
+      → length (bytesOf (counts x b w at next more)) ≤ 34 * cond x 1 0 + most + 21 * live b
   unfolding counts bytesOf
-  counts-long b true = omega (arith, length-append (outBytes (fragment (w .time) (w .session))) (bytesOf (seats b w at more)), fragment-long (w .time) (w .session), seats-long b)
+  counts-long b true = omega (
+    arith,
+    length-append (outBytes (fragment (w .time) (w .session))) (bytesOf (seats b w at more)),
+    fragment-long (w .time) (w .session),
+    seats-long b,
+  )
   counts-long b false = omega (arith, rec b)
 
-bench-long : (ends : Steps) (b : Bench) (before : Watch) (k : ℕ) → length (bytesOf (benchedFrom b before k ends)) ≤ 34 * risesFrom before ends + 21 * live b
+bench-long : (ends : Steps) (b : Bench) (before : Watch) (k : ℕ)
+    → length (bytesOf (benchedFrom b before k ends)) ≤ 34 * risesFrom before ends + 21 * live b
 unfolding benchedFrom risesFrom bytesOf
 bench-long (steps.step w at next rest) b before k =
-    let r = counts-long w at next (λ c. drops (closes c w) c w next (λ d. benchedFrom d w (k + 1) rest)) (34 * risesFrom w rest)
-    (λ c. drops-long w next (λ d. benchedFrom d w (k + 1) rest) (34 * risesFrom w rest) (λ d. bench-long rest d w (k + 1)) c (closes c w) refl) b (rose before w) in
+    let r = counts-long w at next (λ c. drops (closes c w) c w next (λ d. benchedFrom d w (k + 1) rest))
+    (34 * risesFrom w rest)
+    (λ c. drops-long w next (λ d. benchedFrom d w (k + 1) rest) (34 * risesFrom w rest)
+    (λ d. bench-long rest d w (k + 1)) c (closes c w) refl) b (rose before w) in
     omega arith
 bench-long (steps.done read) b before k = omega (arith, length-append (output.bytesOf (heldOf b)) [], held-long b 32 0)
 bench-long (steps.refused n p) b before k = omega arith
-
-live-none : live empty ≡ 0
-unfolding takenFrom isFree
-live-none = refl
 
 -- ---- no 16 but for the room
 
@@ -159,24 +127,30 @@ module _ (p : ℕ) where
   abbrev None : Course → Type 0
   None c = Faults 16 p c → ⊥
 
-  drops-none : (x : Bool) (b : Bench) (w : Watch) (next : ℕ) (more : Bench → Course) → ((c : Bench) → None (more c)) → None (drops x b w next more)
+  drops-none : (x : Bool) (b : Bench) (w : Watch) (next : ℕ) (more : Bench → Course) → ((c : Bench) → None (more c))
+      → None (drops x b w next more)
   unfolding drops Faults
   drops-none true b w next more h = h (dropped b (placeOf b (w .session)))
   drops-none false b w next more h = h b
 
-  counts-none : (x : Bool) (b : Bench) (w : Watch) (at next : ℕ) (more : Bench → Course) → ((c : Bench) → None (more c)) → None (counts x b w at next more)
+  counts-none : (x : Bool) (b : Bench) (w : Watch) (at next : ℕ) (more : Bench → Course)
+      → ((c : Bench) → None (more c)) → None (counts x b w at next more)
   unfolding counts seats Faults
-  counts-none true b w at next more h = cond-ind (ltb (placeFor b (w .session)) 32) _ _ None (λ e. h (counted b (placeFor b (w .session)) (w .session))) (λ e f. omega (arith, f .0))
+  counts-none true b w at next more h =
+      cond-ind (ltb (placeFor b (w .session)) 32) _ _ None (λ e. h (counted b (placeFor b (w .session)) (w .session)))
+      (λ e f. omega (arith, f .0))
   counts-none false b w at next more h = h b
 
   bench-none : (ends : Steps) → Never ends → (b : Bench) (before : Watch) (k : ℕ) → None (benchedFrom b before k ends)
   unfolding benchedFrom Faults
   bench-none (steps.step w at next rest) h b before k =
-      counts-none (rose before w) b w at next _ (λ c. drops-none (closes c w) c w next _ (λ d. bench-none rest h d w (k + 1)))
+      counts-none (rose before w) b w at next
+      _ (λ c. drops-none (closes c w) c w next _ (λ d. bench-none rest h d w (k + 1)))
   bench-none (steps.done read) h b before k = λ f. f
   bench-none (steps.refused n q) h b before k = λ f. h (sym (f .0))
 
-then-not : (k l : Check) → ((p : ℕ) → k ≡ Refused 16 p → ⊥) → ((p : ℕ) → l ≡ Refused 16 p → ⊥) → (p : ℕ) → andThen k l ≡ Refused 16 p → ⊥
+then-not : (k l : Check) → ((p : ℕ) → k ≡ Refused 16 p → ⊥) → ((p : ℕ) → l ≡ Refused 16 p → ⊥) → (p : ℕ)
+    → andThen k l ≡ Refused 16 p → ⊥
 unfolding andThen
 then-not Passed l f g p e = g p e
 then-not (Refused n q) l f g p e = f p e
@@ -187,13 +161,22 @@ module _ (events values : List ℕ) (session strobe close : ℕ) where
 
   benched-long : length (bytesOf (benched names events values)) ≤ length events + 12
   unfolding benched rises
-  benched-long = omega (arith, bench-long (stepEnds names events values) empty unseen 0, live-none, rises-paid names events values)
+  benched-long = omega (
+    arith,
+    bench-long (stepEnds names events values) empty unseen 0,
+    live-none,
+    rises-paid names events values,
+  )
 
   -- 428 bytes more than the events have
-  pub bench-room : (room : ℕ) → benchRoom (length events) ≤ room → benching.bench events values session strobe close room .answer .number ≢ 16
+  pub bench-room : (room : ℕ) → benchRoom (length events) ≤ room
+      → benching.bench events values session strobe close room .answer .number ≢ 16
   unfolding benched
   bench-room room h =
-      not-full (benchChecks events values session strobe close room) _ _ room (benched names events values) (benching.bench events values session strobe close room)
+      not-full (benchChecks events values session strobe close room) _ _ room (benched names events values)
+      (benching.bench events values session strobe close room)
       (bench-page events values session strobe close room)
-      (then-not _ _ (unless-not (benching.limitsOf events values room) 1 (λ e. omega arith)) (unless-not (benching.apart session strobe close) 34 (λ e. omega arith)))
-      (λ p f. bench-none p (stepEnds names events values) (ends-never names events values) empty unseen 0 f) (λ k. omega (arith, benched-long))
+      (then-not _ _ (unless-not (benching.limitsOf events values room) 1 (λ e. omega arith))
+      (unless-not (benching.apart session strobe close) 34 (λ e. omega arith)))
+      (λ p f. bench-none p (stepEnds names events values) (ends-never names events values) empty unseen 0
+      (benched-crowded names events values .faulted 16 p f)) (λ k. omega (arith, benched-long))

@@ -1,18 +1,18 @@
--- Every rise of the strobe but the first takes two steps and two events of the strobe, 44 bytes; the first takes one of each, 22.
+-- Every rise of the strobe but the first takes two steps and two events of the strobe, 44 bytes; the first takes one
+-- of each, 22.
 -- Assumes nothing.
-use Prim.Native.Nat.{ℕ, zero, suc, _+_, _*_, _≤_, _<_}
-use mathlib.Core.Path.{_≡_, refl, sym, ap, subst, _∙_}
+use Prim.Native.Nat.{ℕ, zero, suc, _+_, _*_, _≤_}
+use mathlib.Core.Path.{_≡_, refl, sym, _∙_}
 use mathlib.Core.Logic.{_≢_}
-use mathlib.Core.Bool.{Bool, true, false, cond, _&&_, _||_, false≢true, true≢false}
+use mathlib.Core.Bool.{Bool, true, false, cond, _&&_, _||_, true≢false}
 use mathlib.Core.List.{List}
 use native.Mathlib.Omega.{arith}
-use borrow.Author.Tests.{eqb-true, eqb-false, eq-eqb}
+use borrow.Author.Tests.{eqb-true, eq-eqb}
 use lib.ListN.{length, getD}
 use lib.Dec.{eqb}
 use Rattle.slices.specs.Choice.{cond-ind}
 use Rattle.slices.specs.Splice.{part}
 use Rattle.numbers.specs.Fixed.{big}
-use Rattle.states.specs.declared.States.{States}
 use Rattle.rules.specs.Vector.Laws.{by-test}
 use Rattle.records.specs.declared.Record.{Record}
 use Rattle.records.specs.declared.Record.the-variants.{Time, Value, Real}
@@ -27,7 +27,7 @@ use Rattle.step_ends.specs.declared.Line.the-variants.{Session, Strobe, Close, 
 use Rattle.step_ends.specs.declared.Watch.{Watch}
 use Rattle.step_ends.specs.declared.Seen.{Seen}
 use Rattle.step_ends.specs.declared.Seen.the-variants.{More, Step, End, Bad}
-use Rattle.step_ends.specs.Steps.{lineOf, suits, opened, shows, seeTime, seeValue, seeReal, seeEvent, seeNext, see, Steps, step, done, refused, lastStep, onSeen, unseen, stepsFrom, stepEnds, rose, risesFrom, rises}
+use Rattle.step_ends.specs.Steps.{lineOf, suits, shows, seeTime, seeValue, seeReal, seeEvent, seeNext, see, Steps, step, done, refused, lastStep, onSeen, unseen, stepsFrom, stepEnds, rose, risesFrom, rises}
 
 -- ---- how long a record is
 
@@ -35,11 +35,13 @@ event-long : (k : ℕ) → eventLength k ≢ 0 → 9 ≤ eventLength k
 unfolding eventLength
 event-long k =
     cond-ind (eqb k 1) _ _ (λ (n : ℕ). n ≢ 0 → 9 ≤ n) (λ e h. omega arith)
-    (λ e. cond-ind (eqb k 2 || eqb k 3 || eqb k 4) 13 0 (λ (n : ℕ). n ≢ 0 → 9 ≤ n) (λ f h. omega arith) (λ f h. absurd (h refl)))
+    (λ e. cond-ind (eqb k 2 || eqb k 3 || eqb k 4) 13 0 (λ (n : ℕ). n ≢ 0 → 9 ≤ n) (λ f h. omega arith)
+    (λ f h. absurd (h refl)))
 
 other-long : (k : ℕ) → eqb k 1 ≡ false → eventLength k ≢ 0 → eventLength k ≡ 13
 unfolding eventLength
-other-long k e = rw e (cond-ind (eqb k 2 || eqb k 3 || eqb k 4) 13 0 (λ (n : ℕ). n ≢ 0 → n ≡ 13) (λ f h. refl) (λ f h. absurd (h refl)))
+other-long k e = rw e
+    (cond-ind (eqb k 2 || eqb k 3 || eqb k 4) 13 0 (λ (n : ℕ). n ≢ 0 → n ≡ 13) (λ f h. refl) (λ f h. absurd (h refl)))
 
 time-at : (s : List ℕ) (i : ℕ) → eqb (getD s i 0) 1 ≡ true → isTime (recordAt s i) ≡ true
 unfolding recordAt isTime
@@ -53,7 +55,8 @@ module _ (s : List ℕ) (values : ℕ) (begun : Bool) (i : ℕ) {r : Record} {j 
   nine = omega (arith, w .next, event-long (getD s i 0) some)
 
   thirteen : isTime r ≡ false → i + 13 ≤ j
-  thirteen h = by-test (eqb (getD s i 0) 1) (λ e. absurd (true≢false (sym (rw (← w .is) at (time-at s i e)) ∙ h))) (λ e. omega (arith, w .next, other-long (getD s i 0) e some))
+  thirteen h = by-test (eqb (getD s i 0) 1) (λ e. absurd (true≢false (sym (rw (← w .is) at (time-at s i e)) ∙ h)))
+      (λ e. omega (arith, w .next, other-long (getD s i 0) e some))
 
 -- ---- what has been read pays for the rises
 
@@ -75,7 +78,8 @@ other-most b c = cond-ind (eqb b c) _ _ (λ (n : ℕ). n ≤ 13) (λ e. omega ar
 pays : (b c : ℕ) → 34 * cond (eqb b 0 && eqb c 1) 1 0 + lent c ≤ lent b + (9 + cond (eqb b c) 0 13)
 pays b c =
     by-test (eqb b 0)
-    (λ p. by-test (eqb c 1) (λ q. rw (eqb-true b 0 p, eqb-true c 1 q) (omega arith)) (λ q. rw (p, q) (omega (arith, lent-most c))))
+    (λ p. by-test (eqb c 1) (λ q. rw (eqb-true b 0 p, eqb-true c 1 q) (omega arith))
+    (λ q. rw (p, q) (omega (arith, lent-most c))))
     (λ p. by-test (eqb c 0) (λ q. rw (p, eqb-true c 0 q) (rw p (omega arith))) (λ q. rw (p, q) (omega arith)))
 
 module _ (names : Names) (s values : List ℕ) where
@@ -92,15 +96,33 @@ module _ (names : Names) (s values : List ℕ) where
 
     module _ (j : ℕ) (l : j ≤ length s) where
       -- a record that shows the same strobe
-      same-moves : (v : Watch) → i ≤ j → v .begun ≡ w .begun → v .strobe ≡ w .strobe → w .begun ≡ true → Moves (More v j)
+      same-moves : (v : Watch) → i ≤ j → v .begun ≡ w .begun → v .strobe ≡ w .strobe → w .begun ≡ true
+          → Moves (More v j)
       same-moves v h p q g = (l, (λ f. absurd (true≢false (sym (p ∙ g) ∙ f))), rw (p, q) (omega arith))
 
-      shows-moves : (line : Line) (start n : ℕ) → i + 13 ≤ j → w .begun ≡ true → Moves (More (shows values w line start n) j)
+      shows-moves : (line : Line) (start n : ℕ) → i + 13 ≤ j → w .begun ≡ true
+          → Moves (More (shows values w line start n) j)
       unfolding shows
-      shows-moves Session start n h g = same-moves (record { begun = w .begun; time = w .time; session = big (part values start n); strobe = w .strobe; close = w .close }) (omega arith) refl refl g
+      shows-moves Session start n h g =
+          same-moves (record {
+            begun = w .begun;
+            time = w .time;
+            session = big (part values start n);
+            strobe =
+                w .strobe;
+            close = w .close;
+          }) (omega arith) refl refl g
       shows-moves Strobe start n h g =
           (l, (λ f. absurd (true≢false (sym g ∙ f))), rw g (omega (arith, other-most b (big (part values start n)), h)))
-      shows-moves Close start n h g = same-moves (record { begun = w .begun; time = w .time; session = w .session; strobe = w .strobe; close = big (part values start n) }) (omega arith) refl refl g
+      shows-moves Close start n h g =
+          same-moves (record {
+            begun = w .begun;
+            time = w .time;
+            session = w .session;
+            strobe = w .strobe;
+            close =
+                big (part values start n);
+          }) (omega arith) refl refl g
       shows-moves Other start n h g = same-moves w (omega arith) refl refl g
 
       real-moves : (line : Line) → i ≤ j → w .begun ≡ true → Moves (seeReal w line i j)
@@ -110,14 +132,22 @@ module _ (names : Names) (s values : List ℕ) where
       real-moves Close h g = tt
       real-moves Other h g = same-moves w h refl refl g
 
-    event-moves : (w .begun ≡ false → w .strobe ≡ b) → (r : Record) (j : ℕ) → Stands s (length values) (w .begun) i r j → Moves (seeEvent names values w r i j)
+    event-moves : (w .begun ≡ false → w .strobe ≡ b) → (r : Record) (j : ℕ)
+        → Stands s (length values) (w .begun) i r j → Moves (seeEvent names values w r i j)
     unfolding seeEvent seeTime seeValue isTime
     event-moves f (Time u) j k =
         cond-ind (w .begun) _ _ Moves (λ g. (nine s (length values) (w .begun) i k, k .within, g, refl, refl))
-        (λ g. (k .within, (λ z. absurd (true≢false z)), rw (g, f g, eq-eqb b b refl) (omega (arith, nine s (length values) (w .begun) i k))))
+        (λ g. (
+          k .within,
+          (λ z. absurd (true≢false z)),
+          rw (g, f g, eq-eqb b b refl) (omega (arith, nine s (length values) (w .begun) i k)),
+        ))
     event-moves f (Value x reference start n) j k =
-        cond-ind (suits (lineOf names reference) x n) _ _ Moves (λ z. shows-moves j (k .within) (lineOf names reference) start n (thirteen s (length values) (w .begun) i k refl) (k .may)) (λ z. tt)
-    event-moves f (Real reference bits) j k = real-moves j (k .within) (lineOf names reference) (omega (arith, k .ahead)) (k .may)
+        cond-ind (suits (lineOf names reference) x n) _ _ Moves
+        (λ z. shows-moves j (k .within) (lineOf names reference) start n
+        (thirteen s (length values) (w .begun) i k refl) (k .may)) (λ z. tt)
+    event-moves f (Real reference bits) j k =
+        real-moves j (k .within) (lineOf names reference) (omega (arith, k .ahead)) (k .may)
 
     see-moves : (w .begun ≡ false → w .strobe ≡ b) → Moves (see names s values w i)
     unfolding see seeNext
@@ -129,7 +159,8 @@ module _ (names : Names) (s values : List ℕ) where
         by (next.Bad n p) k = tt
 
     -- the last step, ended by the input's end
-    last-paid : i ≤ length s → (x : Bool) → w .begun ≡ x → 34 * risesFrom before (lastStep x w i) + i ≤ length s + credit b w
+    last-paid : i ≤ length s → (x : Bool) → w .begun ≡ x
+        → 34 * risesFrom before (lastStep x w i) + i ≤ length s + credit b w
     unfolding lastStep risesFrom rose
     last-paid l true g = rw g (omega (arith, pays b (w .strobe)))
     last-paid l false g = omega arith
@@ -138,15 +169,20 @@ module _ (names : Names) (s values : List ℕ) where
       → 34 * risesFrom before (stepsFrom names s values fuel w i) + i ≤ length s + credit (before .strobe) w
   unfolding stepsFrom onSeen risesFrom rose
   paid zero before w i f l = last-paid before w i l (w .begun) refl
-  paid (suc fuel) before w i f l = by (see names s values w i) (see-moves before w i f) (λ before' v j g k. paid fuel before' v j g k)
+  paid (suc fuel) before w i f l =
+      by (see names s values w i) (see-moves before w i f) (λ before' v j g k. paid fuel before' v j g k)
     where
       by : (x : Seen) → Moves before w i x
-          → ((before' v : Watch) (j : ℕ) → (v .begun ≡ false → v .strobe ≡ before' .strobe) → j ≤ length s → 34 * risesFrom before' (stepsFrom names s values fuel v j) + j ≤ length s + credit (before' .strobe) v)
-          → 34 * risesFrom before (onSeen w i x (λ v j. stepsFrom names s values fuel v j)) + i ≤ length s + credit (before .strobe) w
+          → ((before' v : Watch) (j : ℕ) → (v .begun ≡ false → v .strobe ≡ before' .strobe) → j ≤ length s
+          → 34 * risesFrom before' (stepsFrom names s values fuel v j) + j ≤ length s + credit (before' .strobe) v)
+          → 34 * risesFrom before (onSeen w i x (λ v j. stepsFrom names s values fuel v j)) + i ≤ length s + credit
+          (before .strobe) w
       by (More v j) m rec = omega (arith, rec before v j (m .1) (m .0), m .2)
       by (Step v j) m rec =
-          let c : credit (w .strobe) v ≡ lent (w .strobe) + 9 = rw (m .3, m .4, eq-eqb (w .strobe) (w .strobe) refl) (omega arith) in
-          let d : credit (before .strobe) w ≡ lent (before .strobe) + (9 + cond (eqb (before .strobe) (w .strobe)) 0 13) = rw (m .2) in
+          let c : credit (w .strobe) v ≡ lent (w .strobe) + 9 =
+          rw (m .3, m .4, eq-eqb (w .strobe) (w .strobe) refl) (omega arith) in
+          let d : credit (before .strobe) w ≡ lent (before .strobe)
+          + (9 + cond (eqb (before .strobe) (w .strobe)) 0 13) = rw (m .2) in
           let r = rec w v j (λ e. m .4) (m .1) in
           omega (arith, m .0, pays (before .strobe) (w .strobe))
       by End m rec = last-paid before w i l (w .begun) refl
@@ -181,12 +217,14 @@ module _ (names : Names) (s values : List ℕ) where
   event-fine : (w : Watch) (r : Record) (i j : ℕ) → Fine (seeEvent names values w r i j)
   unfolding seeEvent seeTime seeValue
   event-fine w (Time u) i j = cond-ind (w .begun) _ _ Fine (λ e. tt) (λ e. tt)
-  event-fine w (Value x reference start n) i j = cond-ind (suits (lineOf names reference) x n) _ _ Fine (λ e. tt) (λ e z. omega arith)
+  event-fine w (Value x reference start n) i j = cond-ind (suits (lineOf names reference) x n) _ _ Fine (λ e. tt)
+      (λ e z. omega arith)
   event-fine w (Real reference bits) i j = real-fine w (lineOf names reference) i j
 
   see-fine : (w : Watch) (i : ℕ) → Fine (see names s values w i)
   unfolding see seeNext
-  see-fine w i = next-is s (length values) (λ x. Fine (seeNext names values w i x)) (w .begun) i (λ a. tt) (λ a c d. event-fine w (recordAt s i) i _) (λ n o. o .2)
+  see-fine w i = next-is s (length values) (λ x. Fine (seeNext names values w i x)) (w .begun) i (λ a. tt)
+      (λ a c d. event-fine w (recordAt s i) i _) (λ n o. o .2)
 
   last-never : (x : Bool) (w : Watch) (i : ℕ) → Never (lastStep x w i)
   unfolding lastStep
@@ -198,7 +236,8 @@ module _ (names : Names) (s values : List ℕ) where
   steps-never zero w i = last-never (w .begun) w i
   steps-never (suc fuel) w i = by (see names s values w i) (see-fine w i) (λ v j. steps-never fuel v j)
     where
-      by : (x : Seen) → Fine x → ((v : Watch) (j : ℕ) → Never (stepsFrom names s values fuel v j)) → Never (onSeen w i x (λ v j. stepsFrom names s values fuel v j))
+      by : (x : Seen) → Fine x → ((v : Watch) (j : ℕ) → Never (stepsFrom names s values fuel v j))
+          → Never (onSeen w i x (λ v j. stepsFrom names s values fuel v j))
       by (More v j) f rec = rec v j
       by (Step v j) f rec = rec v j
       by End f rec = last-never (w .begun) w i

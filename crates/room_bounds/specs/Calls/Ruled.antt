@@ -20,7 +20,7 @@ use Rattle.encoder.specs.Rule.Keeping.{unset}
 use Rattle.encoder.specs.Rule.Keeping.Laws.{next-is}
 use Rattle.entries.specs.Entries.{applyTimeRule}
 use Rattle.entries.specs.Entries.Keeps as keeping
-use Rattle.courses.specs.Course.{Course, bytesOf, Faults}
+use Rattle.courses.specs.Course.{bytesOf, Faults}
 use Rattle.courses.specs.Ruled.{onRecord, rulesFrom, ruled, onNext, readFrom, read}
 use Rattle.call_pages.specs.Pages.{ruleChecks}
 use Rattle.call_pages.specs.Pages.Proofs.{rule-page}
@@ -28,8 +28,10 @@ use Rattle.room_bounds.specs.Rooms.{ruleRoom}
 use Rattle.room_bounds.specs.Calls.{not-full, unless-not}
 
 module _ (s : List ℕ) (values : ℕ) where
-  on-long : (fuel : ℕ) (c : Clock) (n i : ℕ) → i ≤ length s → ((d : Clock) (m j : ℕ) → j ≤ length s → j + length (bytesOf (rulesFrom s values fuel d m j)) ≤ length s)
-      → (x : Next) → nextEvent s values (c .begun) i ≡ x → i + length (bytesOf (onRecord s values c n i x (λ d m j. rulesFrom s values fuel d m j))) ≤ length s
+  on-long : (fuel : ℕ) (c : Clock) (n i : ℕ) → i ≤ length s
+      → ((d : Clock) (m j : ℕ) → j ≤ length s → j + length (bytesOf (rulesFrom s values fuel d m j)) ≤ length s)
+      → (x : Next) → nextEvent s values (c .begun) i ≡ x
+      → i + length (bytesOf (onRecord s values c n i x (λ d m j. rulesFrom s values fuel d m j))) ≤ length s
   unfolding onRecord bytesOf
   on-long fuel c n i l rec (Event r j) e =
       let f = found-event s values (c .begun) i e in
@@ -44,10 +46,12 @@ module _ (s : List ℕ) (values : ℕ) where
   on-long fuel c n i l rec End e = omega arith
   on-long fuel c n i l rec (Bad m p) e = omega arith
 
-  kept-long : (fuel : ℕ) (c : Clock) (n i : ℕ) → i ≤ length s → i + length (bytesOf (rulesFrom s values fuel c n i)) ≤ length s
+  kept-long : (fuel : ℕ) (c : Clock) (n i : ℕ) → i ≤ length s
+      → i + length (bytesOf (rulesFrom s values fuel c n i)) ≤ length s
   unfolding rulesFrom bytesOf
   kept-long zero c n i l = omega arith
-  kept-long (suc fuel) c n i l = on-long fuel c n i l (λ d m j k. kept-long fuel d m j k) (nextEvent s values (c .begun) i) refl
+  kept-long (suc fuel) c n i l =
+      on-long fuel c n i l (λ d m j k. kept-long fuel d m j k) (nextEvent s values (c .begun) i) refl
 
   ruled-long : length (bytesOf (ruled s values)) ≤ length s
   unfolding ruled
@@ -65,5 +69,7 @@ module _ (s : List ℕ) (values : ℕ) where
   pub rule-room : (room : ℕ) → ruleRoom (length s) ≤ room → applyTimeRule s values room .answer .number ≢ 16
   unfolding read
   rule-room room h =
-      not-full (ruleChecks s values room) _ _ room (ruled s values) (applyTimeRule s values room) (rule-page s values room)
-      (unless-not (keeping.limitsOf s values room) 1 (λ e. omega arith)) (λ p f. never-16 (length s) false 0 p f) (λ k. omega (arith, ruled-long))
+      not-full (ruleChecks s values room) _ _ room (ruled s values) (applyTimeRule s values room)
+      (rule-page s values room)
+      (unless-not (keeping.limitsOf s values room) 1 (λ e. omega arith)) (λ p f. never-16 (length s) false 0 p f)
+      (λ k. omega (arith, ruled-long))

@@ -1,26 +1,25 @@
--- A step takes 10 bytes of change records and at most 11 of sections; a write never takes more than its record; 29 bytes open and close the section.
+-- A step takes 10 bytes of change records and at most 11 of sections; a write never takes more than its record; 29
+-- bytes open and close the section.
 -- Assumes nothing.
 use Prim.Native.Nat.{ℕ, zero, suc, _+_, _*_, _-_, _^_, _≤_, _<_}
-use mathlib.Core.Path.{_≡_, refl, sym, _∙_}
+use mathlib.Core.Path.{_≡_, refl}
 use mathlib.Core.Logic.{_≢_, _⊎_, inl, inr, ⊎-elim}
-use mathlib.Core.Bool.{Bool, true, false, not, cond}
+use mathlib.Core.Bool.{Bool, true, false}
 use mathlib.Core.List.{List, [], _∷_, _++_}
 use native.Mathlib.Omega.{arith}
-use borrow.Author.Tests.{leb-true, leb-false, ne-eqb}
-use lib.ListN.{length, length-append, length-replicate, replicate}
+use borrow.Author.Tests.{leb-false, ne-eqb}
+use lib.ListN.{length, length-append, replicate}
 use lib.Dec.{ltb, leb, eqb}
 use Rattle.slices.specs.Choice.{cond-ind, le-or-lt}
-use Rattle.numbers.specs.Marks.{cyc, ecy, tai}
+use Rattle.numbers.specs.Marks.{ecy, tai}
 use Rattle.written.specs.Shortest.{unsignedBytes, signedBytes}
 use Rattle.written.specs.Shortest.Groups.{unsigned-short}
 use Rattle.written.specs.Shortest.Laws.{bytes-most}
-use Rattle.written.specs.Little.{littleBytes, fixedBytes}
 use Rattle.written.specs.Little.Laws.{length-littleBytes, length-fixedBytes}
 use Rattle.tables.specs.Lists.{Lists, nth, signals}
-use Rattle.tables.specs.Checks.{check1, check2}
 use Rattle.tables.specs.Checks.Laws.{then-passed}
 use Rattle.tables.specs.Good.Laws as good
-use Rattle.tables.specs.declared.Check.the-variants.{Passed, Refused}
+use Rattle.tables.specs.declared.Check.the-variants.{Passed}
 use Rattle.checks.specs.Checked.{checksWithoutRoom, without-number}
 use Rattle.rules.specs.Vector.Laws.{by-test}
 use Rattle.rules.specs.Gather.{time, write, stepEnd}
@@ -34,7 +33,7 @@ use Rattle.changes.specs.Changes.Steps.{changes-number}
 use Rattle.sections_writer.specs.declared.Pen.{Pen}
 use Rattle.sections_writer.specs.Writer.{goes, ends, stops, timeBytes, timeGood, timed, valueBytes, writeBytes, wroteTo, stepped, cycleEnd, closing, givenTime, givenWrite, given, begin}
 use Rattle.entries.specs.Written.{writeSections}
-use Rattle.courses.specs.Course.{Course, adds, done, bytesOf}
+use Rattle.courses.specs.Course.{Course, done, bytesOf}
 use Rattle.courses.specs.Written.{onGiven, writtenFrom, written, follows, inOrder, orderly}
 use Rattle.call_pages.specs.Pages.Proofs.{write-page}
 use Rattle.room_bounds.specs.Rooms.{writeRoom}
@@ -58,29 +57,36 @@ module _ (flag : Bool) (p : Pen) (u : ℕ) where
 closing-long : (p : Pen) → length (closing p) ≤ 26
 unfolding closing cycleEnd
 closing-long p =
-    let a : length (cycleEnd p) ≤ 14 = cond-ind (eqb (p .steps) 0) _ _ (λ (l : List ℕ). length l ≤ 14) (λ e. omega arith)
+    let a : length (cycleEnd p) ≤ 14 = cond-ind (eqb (p .steps) 0) _ _ (λ (l : List ℕ). length l ≤ 14)
+    (λ e. omega arith)
     (λ e. omega (arith, length-append (signedBytes (2 ^ 64 - 1)) ecy, bytes-most true (2 ^ 64 - 1))) in
     omega (arith, length-append (cycleEnd p) (tai ++ replicate 8 0))
 
-value-long : (kind v : ℕ) (s : List ℕ) (j : ℕ) → (kind ≤ 4 → length (valueBytes kind v s j) ≤ 1) × (length (valueBytes kind v s j) ≤ 10)
+value-long : (kind v : ℕ) (s : List ℕ) (j : ℕ) → (kind ≤ 4 → length (valueBytes kind v s j) ≤ 1)
+    × (length (valueBytes kind v s j) ≤ 10)
 unfolding valueBytes
 value-long kind v s j =
-    cond-ind (leb kind 4) _ _ (λ (l : List ℕ). (kind ≤ 4 → length l ≤ 1) × (length l ≤ 10)) (λ e. ((λ k. omega arith), omega arith))
+    cond-ind (leb kind 4) _ _ (λ (l : List ℕ). (kind ≤ 4 → length l ≤ 1) × (length l ≤ 10))
+    (λ e. ((λ k. omega arith), omega arith))
     (λ e. cond-ind (eqb kind 5) _ _ (λ (l : List ℕ). (kind ≤ 4 → length l ≤ 1) × (length l ≤ 10))
-    (λ f. ((λ k. absurd (omega (arith, leb-false kind 4 e))), bytes-most true v)) (λ f. ((λ k. absurd (omega (arith, leb-false kind 4 e))), omega (arith, length-littleBytes 8 v))))
+    (λ f. ((λ k. absurd (omega (arith, leb-false kind 4 e))), bytes-most true v))
+    (λ f. ((λ k. absurd (omega (arith, leb-false kind 4 e))), omega (arith, length-littleBytes 8 v))))
 
 -- "a write never takes more than its record": ids are at most 65,535, and so a delta has at most three bytes
-write-long : (p : Pen) (kind id v : ℕ) (s : List ℕ) (i j : ℕ) → id ≤ 65535 → i + 6 ≤ j → (5 ≤ kind → i + 13 ≤ j) → length (writeBytes p kind id v s j) ≤ j - i
+write-long : (p : Pen) (kind id v : ℕ) (s : List ℕ) (i j : ℕ) → id ≤ 65535 → i + 6 ≤ j → (5 ≤ kind → i + 13 ≤ j)
+    → length (writeBytes p kind id v s j) ≤ j - i
 unfolding writeBytes
 write-long p kind id v s i j h l w =
     let a = length-append (unsignedBytes (id - p .id)) (valueBytes kind v s j) in
     let b : length (unsignedBytes (id - p .id)) ≤ 3 = unsigned-short 9 (id - p .id) 2 (omega arith) in
     let c = value-long kind v s j in
-    ⊎-elim (λ (k : kind ≤ 4). omega (arith, c .0 k)) (λ (k : 4 < kind). omega (arith, c .1, w (omega arith))) (le-or-lt kind 4)
+    ⊎-elim (λ (k : kind ≤ 4). omega (arith, c .0 k))
+    (λ (k : 4 < kind). omega (arith, c .1, w (omega arith))) (le-or-lt kind 4)
 
 -- ---- all of them
 
--- ten times what may be written over eleven for each ten bytes read: nothing before the first time, and behind it 21 inside a step, 20 between steps
+-- ten times what may be written over eleven for each ten bytes read: nothing before the first time, and behind it 21
+-- inside a step, 20 between steps
 abbrev slack : (first inside : Bool) → ℕ
 slack true inside = 0
 slack false true = 21
@@ -110,7 +116,8 @@ module _ (t : Lists) (flag : Bool) (s : List ℕ) (few : signals t ≤ 65535) wh
 
   module _ (p : Pen) (i n : ℕ) (w : Within p i n) (l : i ≤ length s) (more : Pen → ℕ → Course)
       (rec : (q : Pen) (j m : ℕ) → Within q j m → j ≤ length s → Fits m (more q j)) where
-    on-goes : (bs : List ℕ) (q : Pen) (j : ℕ) → Within q j (n + length bs) → j ≤ length s → Fits n (onGiven t flag s p (goes bs q j) more)
+    on-goes : (bs : List ℕ) (q : Pen) (j : ℕ) → Within q j (n + length bs) → j ≤ length s
+        → Fits n (onGiven t flag s p (goes bs q j) more)
     unfolding onGiven bytesOf
     on-goes bs q j h k = omega (arith, length-append bs (bytesOf (more q j)), rec q j (n + length bs) h k)
 
@@ -139,9 +146,11 @@ module _ (t : Lists) (flag : Bool) (s : List ℕ) (few : signals t ≤ 65535) wh
         cond-ind (ltb (p .id) id) _ _ (λ g. Fits n (onGiven t flag s p g more))
         (λ h.
         let a = write-long p (nth (t .kinds) id) id v s i j (omega (arith, o .3)) (o .0) (o .2) in
-        on-goes (writeBytes p (nth (t .kinds) id) id v s j) (wroteTo p id) j (omega (arith, o .0, slack-write (eqb (p .steps) 0) (p .inside))) (o .1))
+        on-goes (writeBytes p (nth (t .kinds) id) id v s j) (wroteTo p id) j
+        (omega (arith, o .0, slack-write (eqb (p .steps) 0) (p .inside))) (o .1))
         (λ h. on-stops 22 i)
-    turn (change.StepEnd j) o = on-goes (0 ∷ []) (stepped p) j (omega (arith, o .0, slack-end (eqb (p .steps) 0) (p .inside))) (o .1)
+    turn (change.StepEnd j) o =
+        on-goes (0 ∷ []) (stepped p) j (omega (arith, o .0, slack-end (eqb (p .steps) 0) (p .inside))) (o .1)
     turn (change.End j) o = on-ends j
     turn (change.Bad m q) o = on-stops m q
 
@@ -151,8 +160,12 @@ module _ (t : Lists) (flag : Bool) (s : List ℕ) (few : signals t ≤ 65535) wh
 
   all-fit : (fuel : ℕ) (p : Pen) (i n : ℕ) → Within p i n → i ≤ length s → Fits n (writtenFrom t flag s fuel p i)
   unfolding writtenFrom
-  all-fit zero p i n w l = turn p i n w l (λ q j. done j (q .steps)) (λ q j m h k. last-fits q j m h k) (nextChange t s (p .inside) i) (next-long t s i (p .inside))
-  all-fit (suc fuel) p i n w l = turn p i n w l (λ q j. writtenFrom t flag s fuel q j) (λ q j m h k. all-fit fuel q j m h k) (nextChange t s (p .inside) i) (next-long t s i (p .inside))
+  all-fit zero p i n w l =
+      turn p i n w l (λ q j. done j (q .steps)) (λ q j m h k. last-fits q j m h k) (nextChange t s (p .inside) i)
+      (next-long t s i (p .inside))
+  all-fit (suc fuel) p i n w l =
+      turn p i n w l (λ q j. writtenFrom t flag s fuel q j)
+      (λ q j m h k. all-fit fuel q j m h k) (nextChange t s (p .inside) i) (next-long t s i (p .inside))
 
   pub written-long : length (bytesOf (written t flag s)) ≤ writeRoom (length s)
   unfolding written
@@ -161,7 +174,8 @@ module _ (t : Lists) (flag : Bool) (s : List ℕ) (few : signals t ≤ 65535) wh
 -- ---- no 16 but for the room
 
 -- a scan in order is refused as the scan, or with 22 or 23
-order-number : (sc : Scan) (begun : Bool) (u id i n p : ℕ) → scan.Faults n p (inOrder begun u id i sc) → scan.Faults n p sc ⊎ ((n ≡ 22) ⊎ (n ≡ 23))
+order-number : (sc : Scan) (begun : Bool) (u id i n p : ℕ) → scan.Faults n p (inOrder begun u id i sc)
+    → scan.Faults n p sc ⊎ ((n ≡ 22) ⊎ (n ≡ 23))
 unfolding inOrder scan.Faults
 order-number (say (time v) q rest) false u id i n p = λ f. order-number rest true v 0 q n p f
 order-number (say (time v) q rest) true u id i n p =
@@ -188,6 +202,8 @@ module _ (t : Lists) (flag : Bool) (s : List ℕ) (room : ℕ) where
   pub write-room : writeRoom (length s) ≤ room → writeSections t flag s room .answer .number ≢ 16
   unfolding orderly
   write-room h =
-      not-full (checksWithoutRoom t (length s) room) _ _ room (written t flag s) (writeSections t flag s room) (write-page t flag s room)
+      not-full (checksWithoutRoom t (length s) room) _ _ room (written t flag s) (writeSections t flag s room)
+      (write-page t flag s room)
       (λ p e. omega (arith, without-number t (length s) room 16 p e .1))
-      (λ p f. none-16 p (order-number (scanChanges t s) false 0 0 0 16 p f)) (λ k. omega (arith, written-long t flag s (few-signals k)))
+      (λ p f. none-16 p (order-number (scanChanges t s) false 0 0 0 16 p f))
+      (λ k. omega (arith, written-long t flag s (few-signals k)))

@@ -40,11 +40,13 @@ pub record Pays (t : Lists) (s : List ℕ) (cost : Act → ℕ) (budget : ℕ �
   pub ofTime : (u i j : ℕ) → i < j → budget i + cost (time u) ≤ budget j + spare
 
 -- what holds of a field, and of what is read
-field-on : (P : Scan → Type 0) (n : ℕ) (s : List ℕ) (i : ℕ) (k : ℕ → Scan) → (i + n ≤ length s → P (k (i + n))) → P (fault 7 i) → P (field n s i k)
+field-on : (P : Scan → Type 0) (n : ℕ) (s : List ℕ) (i : ℕ) (k : ℕ → Scan) → (i + n ≤ length s → P (k (i + n)))
+    → P (fault 7 i) → P (field n s i k)
 unfolding field
 field-on P n s i k f g = cond-ind (leb (i + n) (length s)) _ _ P (λ h. f (leb-true _ _ h)) (λ h. g)
 
-read-on : {A : Type 0} (P : A → Type 0) (s : List ℕ) (at : ℕ) (r : Read) (fails reads : ℕ → ℕ → A) → Ahead s at r → ((n p : ℕ) → P (fails n p))
+read-on : {A : Type 0} (P : A → Type 0) (s : List ℕ) (at : ℕ) (r : Read) (fails reads : ℕ → ℕ → A) → Ahead s at r
+    → ((n p : ℕ) → P (fails n p))
     → ((v i : ℕ) → r ≡ Value v i → at < i → i ≤ length s → P (reads v i)) → P (onRead r fails reads)
 unfolding onRead
 read-on P s at (Value v i) fails reads h f g = g v i refl (h .0) (h .1)
@@ -57,21 +59,27 @@ module _ (t : Lists) (s : List ℕ) (cost : Act → ℕ) (budget : ℕ → ℕ) 
   abbrev S : ℕ
   S = cost stepEnd
 
-  mark-on : (mark : List ℕ) (i n : ℕ) (k : ℕ → Scan) → n ≤ budget i → ((j : ℕ) → n ≤ budget j → j ≤ length s → Cov n (k j)) → Cov n (and-then (endMark mark s i) k)
+  mark-on : (mark : List ℕ) (i n : ℕ) (k : ℕ → Scan) → n ≤ budget i
+      → ((j : ℕ) → n ≤ budget j → j ≤ length s → Cov n (k j)) → Cov n (and-then (endMark mark s i) k)
   unfolding endMark and-then Covers
   mark-on mark i n k l h =
       field-on (λ sc. Cov n (and-then sc k)) 4 s i _
-      (λ g. cond-ind (same (part s i 4) mark) _ _ (λ sc. Cov n (and-then sc k)) (λ e. h (i + 4) (omega (arith, pays .more i (i + 4) (omega arith))) g) (λ e. tt)) tt
+      (λ g. cond-ind (same (part s i 4) mark) _ _ (λ sc. Cov n (and-then sc k))
+      (λ e. h (i + 4) (omega (arith, pays .more i (i + 4) (omega arith))) g) (λ e. tt)) tt
 
   -- ---- the writes of a step
 
-  each-value : (count id i n : ℕ) (k : ℕ → Scan) → n + S ≤ budget i → i ≤ length s → ((j m : ℕ) → m + S ≤ budget j → j ≤ length s → Cov m (k j))
+  each-value : (count id i n : ℕ) (k : ℕ → Scan) → n + S ≤ budget i → i ≤ length s
+      → ((j m : ℕ) → m + S ≤ budget j → j ≤ length s → Cov m (k j))
       → Cov n (and-then (eachValue t s count id i) k)
   unfolding eachValue and-then Covers
   each-value zero id i n k l g h = h i n l g
   each-value (suc count) id i n k l g h =
-      read-on (λ sc. Cov n (and-then sc k)) s i (value (nth (t .kinds) id) s i) _ _ (value-ahead (nth (t .kinds) id) s i) (λ m p. tt)
-      (λ v j e a b. let w = pays .ofWrite id i i v j e in (omega arith, b, each-value count (suc id) j (n + cost (write id v i)) k (omega arith) b h))
+      read-on (λ sc. Cov n (and-then sc k)) s i (value (nth (t .kinds) id) s i)
+      _ _ (value-ahead (nth (t .kinds) id) s i) (λ m p. tt)
+      (λ v j e a b. let w =
+      pays .ofWrite id i i v j e in
+      (omega arith, b, each-value count (suc id) j (n + cost (write id v i)) k (omega arith) b h))
 
   IdFound : ℕ → NextId → Type 0
   IdFound i (ids.Id id′ j) = (i < j) × (j ≤ length s)
@@ -82,24 +90,30 @@ module _ (t : Lists) (s : List ℕ) (cost : Act → ℕ) (budget : ℕ → ℕ) 
   unfolding nextId IdFound
   id-found id i =
       read-on (IdFound i) s i (unsigned s i) _ _ (unsigned-ahead s i) (λ n p. tt)
-      (λ d j e a b. cond-ind (eqb d 0) _ _ (IdFound i) (λ q. (a, b)) (λ q. cond-ind (leb (id + d) (signals t)) _ _ (IdFound i) (λ l. (a, b)) (λ l. tt)))
+      (λ d j e a b. cond-ind (eqb d 0) _ _ (IdFound i) (λ q. (a, b))
+      (λ q. cond-ind (leb (id + d) (signals t)) _ _ (IdFound i) (λ l. (a, b)) (λ l. tt)))
 
   one-change : (i n : ℕ) (x : NextId) (more : ℕ → ℕ → Scan) (k : ℕ → Scan) → IdFound i x → n ≤ budget i
       → ((j m : ℕ) → m + S + pays .spare ≤ budget j → j ≤ length s → Cov m (k j))
-      → ((id j m : ℕ) → m ≤ budget j → j ≤ length s → Cov m (and-then (more id j) k)) → Cov n (and-then (oneChange t s x more) k)
+      → ((id j m : ℕ) → m ≤ budget j → j ≤ length s → Cov m (and-then (more id j) k))
+      → Cov n (and-then (oneChange t s x more) k)
   unfolding oneChange IdFound and-then Covers
   one-change i n (ids.Id id j) more k o l h rec =
       let f = pays .more i j (omega (arith, o .0)) in
-      read-on (λ sc. Cov n (and-then sc k)) s j (value (nth (t .kinds) id) s j) _ _ (value-ahead (nth (t .kinds) id) s j) (λ m p. tt)
-      (λ v e q a b. let w = pays .ofWrite id j j v e q in (omega arith, b, rec id e (n + cost (write id v j)) (omega arith) b))
+      read-on (λ sc. Cov n (and-then sc k)) s j (value (nth (t .kinds) id) s j)
+      _ _ (value-ahead (nth (t .kinds) id) s j) (λ m p. tt)
+      (λ v e q a b. let w =
+      pays .ofWrite id j j v e q in (omega arith, b, rec id e (n + cost (write id v j)) (omega arith) b))
   one-change i n (ids.End j) more k o l h rec = h j n (omega (arith, pays .ofEnd i j (o .0))) (o .1)
   one-change i n (ids.Bad m p) more k o l h rec = tt
 
-  change-list : (fuel id i n : ℕ) (k : ℕ → Scan) → n ≤ budget i → ((j m : ℕ) → m + S + pays .spare ≤ budget j → j ≤ length s → Cov m (k j))
+  change-list : (fuel id i n : ℕ) (k : ℕ → Scan) → n ≤ budget i
+      → ((j m : ℕ) → m + S + pays .spare ≤ budget j → j ≤ length s → Cov m (k j))
       → Cov n (and-then (changeList t s fuel id i) k)
   unfolding changeList and-then Covers
   change-list zero id i n k l h = tt
-  change-list (suc fuel) id i n k l h = one-change i n (nextId t s id i) _ k (id-found id i) l h (λ id′ j m a b. change-list fuel id′ j m k a h)
+  change-list (suc fuel) id i n k l h =
+      one-change i n (nextId t s id i) _ k (id-found id i) l h (λ id′ j m a b. change-list fuel id′ j m k a h)
 
   -- ---- sections
 
@@ -113,14 +127,18 @@ module _ (t : Lists) (s : List ℕ) (cost : Act → ℕ) (budget : ℕ → ℕ) 
     unfolding nextTime TimeFound
     time-found u i =
         read-on (TimeFound i) s i (signed s i) _ _ (signed-ahead s i) (λ n p. tt)
-        (λ d j e a b. cond-ind (negative 64 d) _ _ (TimeFound i) (λ q. (a, b)) (λ q. cond-ind (ltb (u + d) (2 ^ 64)) _ _ (TimeFound i) (λ l. (a, b)) (λ l. tt)))
+        (λ d j e a b. cond-ind (negative 64 d) _ _ (TimeFound i) (λ q. (a, b))
+        (λ q. cond-ind (ltb (u + d) (2 ^ 64)) _ _ (TimeFound i) (λ l. (a, b)) (λ l. tt)))
 
     module _ (k : ℕ → Scan) (h : (j m : ℕ) → m ≤ budget j → j ≤ length s → Cov m (k j)) where
       one-step : (i n : ℕ) (x : NextTime) (more : ℕ → ℕ → Scan) → TimeFound i x → n + pays .spare ≤ budget i
-          → ((u j m : ℕ) → m ≤ budget j → j ≤ length s → Cov m (and-then (more u j) k)) → Cov n (and-then (oneStep t flag s x more) k)
+          → ((u j m : ℕ) → m ≤ budget j → j ≤ length s → Cov m (and-then (more u j) k))
+          → Cov n (and-then (oneStep t flag s x more) k)
       unfolding oneStep TimeFound and-then Covers
-      one-step i n (times.Time u j) more o l rec = let f = pays .ofTime u i j (o .0) in (omega arith, o .1, rec u j (n + cost (time u)) (omega arith) (o .1))
-      one-step i n (times.End j) more o l rec = mark-on ecy j n k (omega (arith, pays .more i j (omega (arith, o .0)))) (λ e a b. h e n a b)
+      one-step i n (times.Time u j) more o l rec = let f =
+          pays .ofTime u i j (o .0) in (omega arith, o .1, rec u j (n + cost (time u)) (omega arith) (o .1))
+      one-step i n (times.End j) more o l rec =
+          mark-on ecy j n k (omega (arith, pays .more i j (omega (arith, o .0)))) (λ e a b. h e n a b)
       one-step i n (times.Bad m p) more o l rec = tt
 
       in-steps : (fuel u i n : ℕ) → n ≤ budget i → Cov n (and-then (steps t flag s fuel u i) k)
@@ -128,13 +146,24 @@ module _ (t : Lists) (s : List ℕ) (cost : Act → ℕ) (budget : ℕ → ℕ) 
       in-steps zero u i n l = tt
       in-steps (suc fuel) u i n l =
           subst (λ sc. Cov n sc) (sym (then-then (changeList t s (length s) 0 i) _ k))
-          (change-list (length s) 0 i n _ l (λ j m a b. (omega arith, b, one-step j (m + S) (nextTime s u j) _ (time-found u j) a (λ u′ e m′ c d. in-steps fuel u′ e m′ c))))
+          (change-list (length s) 0 i n _ l
+          (λ j m a b. (
+            omega arith,
+            b,
+            one-step j (m + S) (nextTime s u j) _ (time-found u j) a
+                (λ u′ e m′ c d. in-steps fuel u′ e m′ c),
+          )))
 
       in-cycle : (i n : ℕ) → n ≤ budget i → Cov n (and-then (cycle t flag s i) k)
       unfolding cycle and-then Covers
       in-cycle i n l =
           field-on (λ sc. Cov n (and-then sc k)) 8 s i _
-          (λ g. let f = pays .ofHead (fixed flag (part s i 8)) i (i + 8) (omega arith) in (omega arith, g, in-steps (length s) _ (i + 8) (n + cost (time (fixed flag (part s i 8)))) (omega arith))) tt
+          (λ g. let f = pays .ofHead (fixed flag (part s i 8)) i (i + 8) (omega arith) in (
+            omega arith,
+            g,
+            in-steps (length s) _ (i + 8) (n + cost (time (fixed flag (part s i 8))))
+                (omega arith),
+          )) tt
 
       in-snapshot : (i n : ℕ) → n ≤ budget i → Cov n (and-then (snapshot t flag s i) k)
       unfolding snapshot and-then Covers
@@ -147,18 +176,21 @@ module _ (t : Lists) (s : List ℕ) (cost : Act → ℕ) (budget : ℕ → ℕ) 
             omega arith,
             g,
             subst (λ sc. Cov (n + cost (time u)) sc) (sym (then-then (eachValue t s (signals t) 1 (i + 12)) _ k))
-                (each-value (signals t) 1 (i + 12) (n + cost (time u)) _ (omega arith) g (λ j m a b. (a, b, mark-on esn j (m + S) k a (λ d x y. h d (m + S) x y)))),
+                (each-value (signals t) 1 (i + 12) (n + cost (time u)) _ (omega arith) g
+                (λ j m a b. (a, b, mark-on esn j (m + S) k a (λ d x y. h d (m + S) x y)))),
           ))
           (λ e. tt))
           tt
 
-      in-entries : (f : ℕ → Scan) (n : ℕ) → ((j : ℕ) → n ≤ budget j → Cov n (and-then (f j) k)) → (count i : ℕ) → n ≤ budget i → Cov n (and-then (and-then (entries t flag s count i) f) k)
+      in-entries : (f : ℕ → Scan) (n : ℕ) → ((j : ℕ) → n ≤ budget j → Cov n (and-then (f j) k)) → (count i : ℕ)
+          → n ≤ budget i → Cov n (and-then (and-then (entries t flag s count i) f) k)
       unfolding entries and-then Covers
       in-entries f n g zero i l = g i l
       in-entries f n g (suc count) i l =
           field-on (λ sc. Cov n (and-then (and-then sc f) k)) 4 s i _
           (λ a. field-on (λ sc. Cov n (and-then (and-then sc f) k)) 4 s (i + 4) _
-          (λ b. cond-ind (negative 32 (fixed flag (part s (i + 4) 4))) _ _ (λ sc. Cov n (and-then (and-then sc f) k)) (λ e. tt)
+          (λ b. cond-ind (negative 32 (fixed flag (part s (i + 4) 4))) _ _ (λ sc. Cov n (and-then (and-then sc f) k))
+          (λ e. tt)
           (λ e. in-entries f n g count (i + 4 + 4) (omega (arith, pays .more i (i + 4 + 4) (omega arith)))))
           tt)
           tt
@@ -168,7 +200,8 @@ module _ (t : Lists) (s : List ℕ) (cost : Act → ℕ) (budget : ℕ → ℕ) 
       in-directory i n l =
           field-on (λ sc. Cov n (and-then sc k)) 8 s i _
           (λ g. cond-ind (negative 32 (fixed flag (part s (i + 4) 4))) _ _ (λ sc. Cov n (and-then sc k)) (λ e. tt)
-          (λ e. in-entries (λ j. endMark eod s j) n (λ j a. mark-on eod j n k a (λ d x y. h d n x y)) _ (i + 8) (omega (arith, pays .more i (i + 8) (omega arith)))))
+          (λ e. in-entries (λ j. endMark eod s j) n (λ j a. mark-on eod j n k a (λ d x y. h d n x y)) _ (i + 8)
+          (omega (arith, pays .more i (i + 8) (omega arith)))))
           tt
 
       one-section : (x : Section) (mark i n : ℕ) → n ≤ budget i → Cov n (oneSection t flag s x mark i k)
@@ -184,7 +217,8 @@ module _ (t : Lists) (s : List ℕ) (cost : Act → ℕ) (budget : ℕ → ℕ) 
     in-sections zero i n l = tt
     in-sections (suc fuel) i n l =
         field-on (Cov n) 4 s i _
-        (λ g. one-section (λ j. sections t flag s fuel j) (λ j m a b. in-sections fuel j m a) (sectionOf (part s i 4)) i (i + 4) n (omega (arith, pays .more i (i + 4) (omega arith)))) tt
+        (λ g. one-section (λ j. sections t flag s fuel j) (λ j m a b. in-sections fuel j m a) (sectionOf (part s i 4))
+        i (i + 4) n (omega (arith, pays .more i (i + 4) (omega arith)))) tt
 
     pub sections-covered : Covers cost budget (length s) 0 (scanSections t flag s)
     unfolding scanSections
