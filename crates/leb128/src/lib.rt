@@ -1,6 +1,9 @@
 // LEB128 numbers, as DWARF defines them, of at most ten bytes.
 ghost use mathlib.Core.Path.{_≡_};
+ghost use Prim.Native.Nat.{_+_, _<_, _≤_, _^_};
+ghost use lib.ListN.{length};
 ghost use Rattle.leb128.specs.Leb128.{readUnsigned, readSigned};
+ghost use Rattle.leb128.specs.Leb128.Nine.{signedEnd};
 ghost use Rattle.leb128.specs.Leb128.Nine.{Nine};
 
 // What reading a number finds.
@@ -97,8 +100,19 @@ pub fn unsigned(s: &[u8], at: usize) -> Leb
     }
 }
 
-// A signed number, as its 64 bits in two's complement.
-pub fn signed(s: &[u8], at: usize) -> Leb
+// A signed number that ends: its groups' sum, 128 to the number of them, its last byte, and the place after it.
+fn ends(sum: u64, power: u64, last: u8, next: usize) -> Leb
+    requires { ⌜ (sum < power) × (power ≤ 2 ^ 63) ⌝ }
+    ensures { λ r. ⌜ r ≡ signedEnd sum power last next ⌝ }
+{
+    if last < 64 {
+        Leb::Value(sum, next)
+    } else {
+        Leb::Value(sum + (0xffff_ffff_ffff_ffff - power) + 1, next)
+    }
+}
+
+fn signed_long(s: &[u8], at: usize) -> Leb
     ensures { λ r. ⌜ r ≡ readSigned (now (s .entry)) at ⌝ }
 {
     match nine(s, at) {
@@ -107,13 +121,7 @@ pub fn signed(s: &[u8], at: usize) -> Leb
             power,
             last,
             next,
-        } => {
-            if last < 64 {
-                Leb::Value(sum, next)
-            } else {
-                Leb::Value(sum + (0xffff_ffff_ffff_ffff - power) + 1, next)
-            }
-        }
+        } => ends(sum, power, last, next),
         Run::Open { sum, tenth } => {
             if s.len() <= tenth {
                 return Leb::Short;
@@ -130,4 +138,42 @@ pub fn signed(s: &[u8], at: usize) -> Leb
         }
         Run::Short => Leb::Short,
     }
+}
+
+// Most signed numbers have at most four bytes: a delta of 100 ns, say.
+fn signed_near(s: &[u8], at: usize) -> Leb
+    requires { ⌜ at + 4 ≤ length (now s) ⌝ }
+    ensures { λ r. ⌜ r ≡ readSigned (now (s .entry)) at ⌝ }
+{
+    let a = s[at];
+    if a < 128 {
+        return ends((a % 128) as u64, 128, a, at + 1);
+    }
+    let b = s[at + 1];
+    let two = (a % 128) as u64 + (b % 128) as u64 * 128;
+    if b < 128 {
+        return ends(two, 0x4000, b, at + 2);
+    }
+    let c = s[at + 2];
+    let three = two + (c % 128) as u64 * 0x4000;
+    if c < 128 {
+        return ends(three, 0x20_0000, c, at + 3);
+    }
+    let d = s[at + 3];
+    if d < 128 {
+        return ends(three + (d % 128) as u64 * 0x20_0000, 0x1000_0000, d, at + 4);
+    }
+    signed_long(s, at)
+}
+
+// A signed number, as its 64 bits in two's complement.
+pub fn signed(s: &[u8], at: usize) -> Leb
+    ensures { λ r. ⌜ r ≡ readSigned (now (s .entry)) at ⌝ }
+{
+    if at < s.len() {
+        if 4 <= s.len() - at {
+            return signed_near(s, at);
+        }
+    }
+    signed_long(s, at)
 }

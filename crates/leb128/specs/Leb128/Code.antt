@@ -4,6 +4,7 @@ use mathlib.Core.Path.{_≡_, refl, ap, sym, subst, _∙_}
 use Prim.Native.Nat.{ℕ, suc, _+_, _*_, _-_, _%_, _^_, _≤_, _<_}
 use mathlib.Core.List.{List}
 use mathlib.Core.Bool.{Bool, true, false}
+use mathlib.Core.Logic.{⊎-elim}
 use native.Mathlib.Nat.{pow-suc, pow-le-pow-right, mul-le-mul-right, zero-lt-suc}
 use native.Mathlib.Numerals.{add-one}
 use native.Mathlib.Omega.{arith}
@@ -14,7 +15,8 @@ use lib.IntN.{subℕ}
 use mir.Val.{Fits, ofZ}
 use mir.Syntax.{w64}
 use Rattle.leb128.specs.Leb128.{value, goesOn, lebOf, unsignedTenth, signedTenth, signedValue, signedBits, readUnsigned, readSigned}
-use Rattle.leb128.specs.Leb128.Nine.{Ends, Stays, Cut, Nine}
+use Rattle.slices.specs.Choice.{le-or-lt}
+use Rattle.leb128.specs.Leb128.Nine.{Ends, Stays, Cut, Nine, signedEnd}
 use Rattle.leb128.specs.Leb128.Laws.{value-next, count-taken, last-taken}
 use Rattle.leb128.specs.declared.Leb.{Leb}
 use Rattle.leb128.specs.declared.Leb.the-variants.{Value, Large}
@@ -224,26 +226,46 @@ module _ (l : List ℕ) (k : ℕ) (h : k < length l) where
   unfolding signedBits signedValue
   signed-high b v = simp (last-taken l k h, le-leb 64 _ b) (simp (count-taken l k h) (bits-below _ _ v))
 
+module _ (sum power last next : ℕ) where
+  pub end-low : last < 64 → Value sum next ≡ signedEnd sum power last next
+  end-low h = simp (lt-ltb last 64 h)
+
+  pub end-high : 64 ≤ last → Value (sum + (0xffff_ffff_ffff_ffff - power) + 1) next ≡ signedEnd sum power last next
+  end-high h = simp (le-ltb last 64 h)
+
+pub end-fits : (sum power : ℕ) → sum < power → power ≤ 2 ^ 63 → Fits w64 (sum + (0xffff_ffff_ffff_ffff - power))
+end-fits sum power b m = omega arith
+
+pub end-fits-one : (sum power : ℕ) → sum < power → power ≤ 2 ^ 63 → Fits w64 (sum + (0xffff_ffff_ffff_ffff - power) + 1)
+end-fits-one sum power b m = omega arith
+
 module _ (s : List ℕ) (at : ℕ) {r : Run} (n : Nine s at r) where
   module _ {sum power last next : ℕ} (e : r ≡ Ended sum power last next) where
     ends : Ends (drop at s) at sum power last next
     ends = subst (Nine s at) e n
 
-    pub high-fits : Fits w64 (sum + (0xffff_ffff_ffff_ffff - power))
-    high-fits = omega (arith, ends .below, ends .most)
+    pub ended-below : sum < power
+    ended-below = ends .below
 
-    pub high-fits-one : Fits w64 (sum + (0xffff_ffff_ffff_ffff - power) + 1)
-    high-fits-one = omega (arith, ends .below, ends .most)
+    pub ended-most : power ≤ 2 ^ 63
+    ended-most = ends .most
 
-    pub signed-ended-low : last < 64 → Value sum next ≡ readSigned s at
+    signed-ended-low : last < 64 → Value sum next ≡ readSigned s at
     signed-ended-low h =
         leb-ended _ _ s at n e sum
         (λ f. f .total ∙ sym (signed-low (drop at s) (goesOn (drop at s)) (f .inside) (omega (arith, f .ending))))
 
-    pub signed-ended-high : 64 ≤ last → Value (sum + (0xffff_ffff_ffff_ffff - power) + 1) next ≡ readSigned s at
+    signed-ended-high : 64 ≤ last → Value (sum + (0xffff_ffff_ffff_ffff - power) + 1) next ≡ readSigned s at
     signed-ended-high h =
         leb-ended _ _ s at n e _
         (λ f. omega (arith, f .most, signed-high (drop at s) (goesOn (drop at s)) (f .inside) (omega (arith, f .ending)) (omega (arith, f .below))))
+
+    pub signed-ended : {l : Leb} → l ≡ signedEnd sum power last next → l ≡ readSigned s at
+    signed-ended g =
+        g
+        ∙ ⊎-elim (λ (h : 64 ≤ last). sym (end-high sum power last next h) ∙ signed-ended-high h)
+        (λ (h : last < 64). sym (end-low sum power last next h) ∙ signed-ended-low h)
+        (le-or-lt 64 last)
 
   module _ {sum tenth : ℕ} (e : r ≡ Open sum tenth) (h : tenth < length s) where
     pub signed-ten-low : getD s tenth 0 ≡ 0 → Value sum (tenth + 1) ≡ readSigned s at
@@ -263,10 +285,75 @@ pub signed-large : (b : ℕ) → (b ≡ 0 → ⊥) → (b ≡ 127 → ⊥) → s
 unfolding signedTenth
 signed-large b z o = simp (ne-eqb b 0 z, ne-eqb b 127 o)
 
+-- .. of at most four bytes
+module _ (s : List ℕ) (at : ℕ) (h : at + 4 ≤ length s) where
+  past-one : 128 ≤ getD s at 0 → Passed s at (getD s at 0 % 128) 128 (at + 1) 1
+  past-one a =
+      let e : 0 + getD s at 0 % 128 * 1 ≡ getD s at 0 % 128 = omega arith in
+      rw e at (passed-more (passed-none s at) (omega arith) (omega arith) a)
+
+  past-two : 128 ≤ getD s at 0 → 128 ≤ getD s (at + 1) 0 → Passed s at (getD s at 0 % 128 + getD s (at + 1) 0 % 128 * 128) 0x4000 (at + 2) 2
+  past-two a b =
+      let p : at + 1 + 1 ≡ at + 2 = omega arith in
+      rw p at (passed-more (past-one a) (omega arith) (omega arith) b)
+
+  past-three : 128 ≤ getD s at 0 → 128 ≤ getD s (at + 1) 0 → 128 ≤ getD s (at + 2) 0
+      → Passed s at (getD s at 0 % 128 + getD s (at + 1) 0 % 128 * 128 + getD s (at + 2) 0 % 128 * 0x4000) 0x20_0000 (at + 3) 3
+  past-three a b c =
+      let p : at + 2 + 1 ≡ at + 3 = omega arith in
+      rw p at (passed-more (past-two a b) (omega arith) (omega arith) c)
+
+  module _ {l : Leb} where
+    pub near-one : getD s at 0 < 128 → l ≡ signedEnd (getD s at 0 % 128) 128 (getD s at 0) (at + 1) → l ≡ readSigned s at
+    near-one a g =
+        let e : 0 + getD s at 0 % 128 * 1 ≡ getD s at 0 % 128 = omega arith in
+        signed-ended s at {r = Ended (getD s at 0 % 128) 128 (getD s at 0) (at + 1)}
+        (rw e at (nine-ended (passed-none s at) (omega arith) (omega arith) a)) refl g
+
+    module _ (a : 128 ≤ getD s at 0) where
+      pub near-two : getD s (at + 1) 0 < 128
+          → l ≡ signedEnd (getD s at 0 % 128 + getD s (at + 1) 0 % 128 * 128) 0x4000 (getD s (at + 1) 0) (at + 2) → l ≡ readSigned s at
+      near-two b g =
+          let p : at + 1 + 1 ≡ at + 2 = omega arith in
+          signed-ended s at {r = Ended _ 0x4000 (getD s (at + 1) 0) (at + 2)} (rw p at (nine-ended (past-one a) (omega arith) (omega arith) b)) refl g
+
+      module _ (b : 128 ≤ getD s (at + 1) 0) where
+        pub near-three : getD s (at + 2) 0 < 128
+            → l ≡ signedEnd (getD s at 0 % 128 + getD s (at + 1) 0 % 128 * 128 + getD s (at + 2) 0 % 128 * 0x4000) 0x20_0000 (getD s (at + 2) 0) (at + 3)
+            → l ≡ readSigned s at
+        near-three c g =
+            let p : at + 2 + 1 ≡ at + 3 = omega arith in
+            signed-ended s at {r = Ended _ 0x20_0000 (getD s (at + 2) 0) (at + 3)} (rw p at (nine-ended (past-two a b) (omega arith) (omega arith) c)) refl g
+
+        pub near-four : 128 ≤ getD s (at + 2) 0 → getD s (at + 3) 0 < 128
+            → l
+            ≡ signedEnd (getD s at 0 % 128 + getD s (at + 1) 0 % 128 * 128 + getD s (at + 2) 0 % 128 * 0x4000 + getD s (at + 3) 0 % 128 * 0x20_0000) 0x1000_0000 (getD s (at + 3) 0) (at + 4)
+            → l ≡ readSigned s at
+        near-four c d g =
+            let p : at + 3 + 1 ≡ at + 4 = omega arith in
+            signed-ended s at {r = Ended _ 0x1000_0000 (getD s (at + 3) 0) (at + 4)} (rw p at (nine-ended (past-three a b c) (omega arith) (omega arith) d)) refl g
+
+module _ (a : ℕ) where
+  pub small-one : (a % 128 < 128) × (128 ≤ 2 ^ 63)
+  small-one = (omega arith, omega arith)
+
+  pub small-two : (b : ℕ) → (a % 128 + b % 128 * 128 < 0x4000) × (0x4000 ≤ 2 ^ 63)
+  small-two b = (omega arith, omega arith)
+
+  pub small-three : (b c : ℕ) → (a % 128 + b % 128 * 128 + c % 128 * 0x4000 < 0x20_0000) × (0x20_0000 ≤ 2 ^ 63)
+  small-three b c = (omega arith, omega arith)
+
+  pub small-four : (b c d : ℕ) → (a % 128 + b % 128 * 128 + c % 128 * 0x4000 + d % 128 * 0x20_0000 < 0x1000_0000) × (0x1000_0000 ≤ 2 ^ 63)
+  small-four b c d = (omega arith, omega arith)
+
 -- what the proofs of `nine`, `unsigned` and `signed` search
 pub ruleset nine-laws = (passed-none, passed-more, weight-fits, group-fits, sum-fits, nine-ended, nine-short, nine-open)
 
 pub ruleset unsigned-laws = (unsigned-one, unsigned-two, leb-short, leb-cut, leb-large, tenth-fits, unsigned-ended, unsigned-large, unsigned-ten)
 
 pub ruleset signed-laws =
-    (leb-short, leb-cut, leb-large, ten-fits, high-fits, high-fits-one, signed-ended-low, signed-ended-high, signed-large, signed-ten-low, signed-ten-high)
+    (leb-short, leb-cut, leb-large, ten-fits, ended-below, ended-most, signed-ended, signed-large, signed-ten-low, signed-ten-high)
+
+pub ruleset end-laws = (end-low, end-high, end-fits, end-fits-one)
+
+pub ruleset near-laws = (near-one, near-two, near-three, near-four, small-one, small-two, small-three, small-four)

@@ -1,10 +1,14 @@
 -- What the first nine bytes of a LEB128 number tell, or fewer where it ends before: the promise of `leb128::nine`.
 -- Assumes nothing.
 use mathlib.Core.Path.{_≡_}
-use Prim.Native.Nat.{ℕ, _+_, _^_, _≤_, _<_}
+use Prim.Native.Nat.{ℕ, _+_, _-_, _^_, _≤_, _<_}
+use mathlib.Core.Bool.{cond}
 use mathlib.Core.List.{List}
+use lib.Dec.{ltb}
 use lib.ListN.{length, getD, take, drop}
 use Rattle.leb128.specs.Leb128.{value, goesOn}
+use Rattle.leb128.specs.declared.Leb.{Leb}
+use Rattle.leb128.specs.declared.Leb.the-variants.{Value}
 use Rattle.leb128.specs.declared.Run.{Run}
 use Rattle.leb128.specs.declared.Run.the-variants.{Ended, Open, Short}
 
@@ -36,3 +40,7 @@ abbrev pub Nine : List ℕ → ℕ → Run → Type 0
 Nine s at (Ended sum power last next) = Ends (drop at s) at sum power last next
 Nine s at (Open sum tenth) = Stays (drop at s) at sum tenth
 Nine s at Short = Cut (drop at s)
+
+-- a signed number that ends, by the sum and the weight of its bytes and the last of them: below 0 where bit 6 of that is set
+abbrev pub signedEnd : ℕ → ℕ → ℕ → ℕ → Leb
+signedEnd sum power last next = cond (ltb last 64) (Value sum next) (Value (sum + (0xffff_ffff_ffff_ffff - power) + 1) next)
