@@ -284,12 +284,15 @@ pub fn records(input: Input) -> Records {
     Records { name: input.name, tables: input.tables, bytes, count: whole.1 }
 }
 
+/// The widest vector on which rule (c) acts.
+const WIDEST: u32 = MOST_SIGNALS as u32 / 8 * 8;
+
 /// As many steps as an input holds, each of which writes every bit of the widest vector, in this order.
 fn widest(name: &str, ids: impl Iterator<Item = u32> + Clone) -> Records {
     let mut m = Maker::new(6);
-    m.vector(MOST_SIGNALS as u32, 1);
+    m.vector(WIDEST, 1);
     let (mut bytes, mut steps) = (vec![], 0);
-    while bytes.len() + 10 + 6 * MOST_SIGNALS <= MOST_INPUT {
+    while bytes.len() + 10 + 6 * WIDEST as usize <= MOST_INPUT {
         bytes.push(1);
         bytes.extend((steps as u64).to_be_bytes());
         for id in ids.clone() {
@@ -300,16 +303,16 @@ fn widest(name: &str, ids: impl Iterator<Item = u32> + Clone) -> Records {
         bytes.push(4);
         steps += 1;
     }
-    Records { name: name.to_string(), tables: m.t, bytes, count: steps * (MOST_SIGNALS as u64 + 2) }
+    Records { name: name.to_string(), tables: m.t, bytes, count: steps * (u64::from(WIDEST) + 2) }
 }
 
 pub fn falling() -> Records {
-    widest("16 MB, the widest vector by falling ids", (1..=MOST_SIGNALS as u32).rev())
+    widest("16 MB, the widest vector by falling ids", (1..=WIDEST).rev())
 }
 
 /// The bits of the last mask byte first.
 pub fn falling_behind() -> Records {
-    widest("16 MB, the same behind the eight lowest ids", (1..=8).chain((9..=MOST_SIGNALS as u32).rev()))
+    widest("16 MB, the same behind the eight lowest ids", (1..=8).chain((9..=WIDEST).rev()))
 }
 
 /// Steps in which a strobe rises and falls while one of sixteen sessions is shown.

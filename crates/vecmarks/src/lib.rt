@@ -92,6 +92,20 @@ fn low_bits(k: usize) -> u8
     (1 << (k as u32)) - 1
 }
 
+// Whether each of `count` bytes from `at` on has all its bits set, the last asked first: a list that falls fills it last.
+fn all_full_by_last(room: &[u8], at: usize, count: usize) -> bool
+    requires { ⌜ at + count ≤ length (now room) ⌝ }
+    ensures { λ r. ⌜ r ≡ allFull (part (now (room .entry)) at count) ⌝ }
+{
+    if count == 0 {
+        return true;
+    }
+    if room[at + (count - 1)] != 255 {
+        return false;
+    }
+    all_full(room, at, count)
+}
+
 // Rule (c), as the Rust tests it: the first mask byte is skipped unless the width is a multiple of 8, all others must be full, and the one skipped must
 // have the bits that the width leaves over.
 pub fn full_signal_has_changed(room: &[u8], info: VecBufferInfo) -> bool
@@ -102,9 +116,9 @@ pub fn full_signal_has_changed(room: &[u8], info: VecBufferInfo) -> bool
     let count = mask_bytes(info.width);
     let over = info.width % 8;
     if over == 0 {
-        return all_full(room, at, count);
+        return all_full_by_last(room, at, count);
     }
-    if !all_full(room, at + 1, count - 1) {
+    if !all_full_by_last(room, at + 1, count - 1) {
         return false;
     }
     room[at] == low_bits(over)

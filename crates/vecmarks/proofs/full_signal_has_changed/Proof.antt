@@ -1,3 +1,4 @@
+-- Written by tools/proof-answers from proofs.map.
 -- `vecmarks::full_signal_has_changed` meets its contract: each need follows from `test-laws`. Assumes nothing.
 use Rattle.vecmarks.specs.Full.Laws.{test-laws}
 use borrow.Author.Needs.{needs}
@@ -10,20 +11,20 @@ add-at c = search (test-laws, needs)
 mask-bytes-requires : tie.Need-mask-bytes-requires
 mask-bytes-requires c κs = search (test-laws, needs)
 
-all-full-requires : tie.Need-all-full-requires
-all-full-requires c κs = search (test-laws, needs)
+all-full-by-last-requires : tie.Need-all-full-by-last-requires
+all-full-by-last-requires c κs = search (test-laws, needs)
 
 returns : tie.Need-returns
 returns c = search (test-laws, needs)
 
-add-all-full : tie.Need-add-all-full
-add-all-full c = search (test-laws, needs)
+add-all-full-by-last : tie.Need-add-all-full-by-last
+add-all-full-by-last c = search (test-laws, needs)
 
-sub-all-full : tie.Need-sub-all-full
-sub-all-full c = search (test-laws, needs)
+sub-all-full-by-last : tie.Need-sub-all-full-by-last
+sub-all-full-by-last c = search (test-laws, needs)
 
-all-full-requires-2 : tie.Need-all-full-requires-2
-all-full-requires-2 c κs = search (test-laws, needs)
+all-full-by-last-requires-2 : tie.Need-all-full-by-last-requires-2
+all-full-by-last-requires-2 c κs = search (test-laws, needs)
 
 returns-2 : tie.Need-returns-2
 returns-2 c = search (test-laws, needs)
@@ -43,11 +44,11 @@ full-signal-has-changed-spec =
     (tie.spec
     add-at
     mask-bytes-requires
-    all-full-requires
+    all-full-by-last-requires
     returns
-    add-all-full
-    sub-all-full
-    all-full-requires-2
+    add-all-full-by-last
+    sub-all-full-by-last
+    all-full-by-last-requires-2
     returns-2
     shared-slice-read-result
     low-bits-requires

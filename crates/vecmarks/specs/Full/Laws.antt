@@ -1,8 +1,8 @@
 -- The test of the mask bytes.
 -- Assumes nothing.
-use mathlib.Core.Path.{_≡_, sym, ap, _∙_}
-use Prim.Native.Nat.{ℕ, suc, _+_, _-_, _*_, _%_, _^_, _<_, _≤_}
-use mathlib.Core.Bool.{Bool, true, false, not}
+use mathlib.Core.Path.{_≡_, refl, sym, ap, _∙_}
+use Prim.Native.Nat.{ℕ, zero, suc, _+_, _-_, _*_, _%_, _^_, _<_, _≤_}
+use mathlib.Core.Bool.{Bool, true, false, not, _&&_}
 use mathlib.Core.List.{List, _∷_}
 use native.Mathlib.Nat.{one-mul}
 use native.Mathlib.Numerals.{add-one}
@@ -63,6 +63,30 @@ pub full-all : {room : List ℕ} {at n i : ℕ} → Filled room at n i → n ≤
 unfolding allFull part
 full-all {n = n} {i = i} c h = let e : n - i ≡ 0 = omega arith in sym (rw e) ∙ c .left
 
+-- ---- the last byte first
+
+pub full-empty : (room : List ℕ) (at n : ℕ) → n ≡ 0 → true ≡ allFull (part room at n)
+full-empty room at n z = full-all (full-none room at n) (omega arith)
+
+-- a byte that is not full
+hole : (room : List ℕ) (at n k : ℕ) → at + n ≤ length room → k < n → (getD room (at + k) 0 ≡ 255 → ⊥) → false ≡ allFull (part room at n)
+unfolding allFull
+hole room at zero k h o f = absurd (omega arith)
+hole room at (suc n) zero h o f =
+    let z : at + 0 ≡ at = omega arith in
+    rw (part-cons room at n (omega arith), ne-eqb (getD room at 0) 255 (rw z at f))
+hole room at (suc n) (suc k) h o f =
+    let d : at + suc k ≡ at + 1 + k = omega arith in
+    rw (part-cons room at n (omega arith), ← hole room (at + 1) n k (omega arith) (omega arith) (rw d at f)) (and-false (eqb (getD room at 0) 255))
+  where
+    and-false : (m : Bool) → false ≡ (m && false)
+    and-false true = refl
+    and-false false = refl
+
+pub full-last : (room : List ℕ) (at n : ℕ) → at + n ≤ length room → (n ≡ 0 → ⊥) → (getD room (at + (n - 1)) 0 ≡ 255 → ⊥)
+    → false ≡ allFull (part room at n)
+full-last room at n h z f = hole room at n (n - 1) h (omega (arith, z)) f
+
 -- ---- the whole test
 
 module _ {room : List ℕ} {i : VecBufferInfo} (h : Inside room i) {n : ℕ} (bytes : n ≡ bytesRequired Two (i .width)) where
@@ -103,5 +127,7 @@ module _ {room : List ℕ} {i : VecBufferInfo} (h : Inside room i) {n : ℕ} (by
 pub ruleset low-laws = (low-some, low-is)
 
 pub ruleset full-laws = (full-none, full-more, full-not, full-all)
+
+pub ruleset last-laws = (full-empty, full-last)
 
 pub ruleset test-laws = (ask-all, test-whole, some-byte, ask-rest, ask-first, test-not, test-first)
