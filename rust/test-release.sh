@@ -45,7 +45,7 @@ while read -r program words; do
     [ -s "$empty/printed" ] || failed "$program $words: printed nothing"
     cat "$empty/printed" >> "$empty/all"
 done < "$empty/uses"
-rises=$(wc -l < "$root/crates/bench_reassembly/stdout")
+rises=$(wc -l < "$root/crates/reassembly_fragments/stdout")
 grep -q "^$rises rises = " "$empty/all" || failed "the balance is not that of $rises rises"
 
 # C over the archive.
@@ -57,7 +57,7 @@ cd rust
 CARGO_TARGET_DIR=$empty/target
 export CARGO_TARGET_DIR
 # the last of the listings that the proved program prints
-sed '1,/^done/d' "$root/crates/listings/stdout" > "$empty/listing"
-cargo run -q --locked -p doorquill --example listing < "$root/crates/bench_reassembly/stdin" | cmp - "$empty/listing" ||
+sed '1,/^done/d' "$root/crates/run_listings/stdout" > "$empty/listing"
+cargo run -q --locked -p doorquill --example listing < "$root/crates/reassembly_fragments/stdin" | cmp - "$empty/listing" ||
     failed "the crate's example"
 echo "release: $(basename "$file") holds: sums, the page's first use, C and Rust over its archive"

@@ -233,7 +233,7 @@ impl Acts for Writes {
 
 /// The reassembly sample, whose steps come again and again with 1 ns between any two rounds, 16 MB.
 fn reassembly() -> Input {
-    let file = include_bytes!("../../crates/bench_reassembly/stdin");
+    let file = include_bytes!("../../crates/reassembly_fragments/stdin");
     let (tables, big, at) = plain::preamble(file).expect("a good preamble");
     let sections = &file[at..];
     let find = |mark: &[u8]| sections.windows(mark.len()).position(|bytes| bytes == mark).expect("a mark");

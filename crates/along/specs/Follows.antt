@@ -12,7 +12,7 @@ use Rattle.vecmarks.specs.declared.VecBufferInfo.{VecBufferInfo}
 use Rattle.vecmarks.specs.Info.{Inside, isQuiet}
 use Rattle.gather.specs.declared.VecInfo.{VecInfo}
 use Rattle.gather.specs.Run.{Scan, say}
-use Rattle.runs.specs.Along.{bitMap, Taken}
+use Rattle.quiet_changes.specs.Along.{bitMap, Taken}
 use Rattle.along.specs.declared.Reached.{Reached}
 pub mod Code
 pub mod Laws

@@ -1,6 +1,6 @@
 // Writes that follow one another along the bits of a vector that was looked up, and make no event.
 use gather::VecInfo;
-use runs::take_change;
+use quiet_changes::take_change;
 use states::States;
 use vecmarks::VecBufferInfo;
 use vecmarks::is_quiet;

@@ -8,10 +8,10 @@ use native.Mathlib.Omega.{arith}
 use lib.ListN.{length, take}
 use Rattle.slices.specs.Splice.{splice}
 use Rattle.slices.specs.Splice.Laws.{length-splice, take-splice}
-use Rattle.written.specs.Ended.{Ended, Says, Fills}
-use Rattle.written.specs.Ended as ended
-use Rattle.written.specs.declared.Written.{Written}
-use Rattle.written.specs.declared.Written.the-variants.{Done, Refused}
+use Rattle.number_writer.specs.Ended.{Ended, Says, Fills}
+use Rattle.number_writer.specs.Ended as ended
+use Rattle.number_writer.specs.declared.Written.{Written}
+use Rattle.number_writer.specs.declared.Written.the-variants.{Done, Refused}
 use Rattle.answers.specs.Outcome.{Outcome, accepted, refused, LeftKept, leavesKept}
 
 -- "A request's other output counts as event bytes, with 0 value bytes; steps are then time records read."

@@ -4,7 +4,7 @@ use crate::clear_past;
 use crate::refused;
 use crate::widen;
 use tables::within_limit;
-use written::Written;
+use number_writer::Written;
 ghost use mathlib.Core.Path.{_≡_};
 ghost use mathlib.Core.Bool.{_&&_};
 ghost use mathlib.Core.List.{[]};

@@ -12,8 +12,8 @@ use lib.ListN.{length, take}
 use Rattle.slices.specs.Choice.{cond-ind}
 use Rattle.numbers.specs.Fixed.Laws.{Bytes}
 use Rattle.tables.specs.Checks.{withinLimit}
-use Rattle.written.specs.Ended.{Ended, wrote}
-use Rattle.written.specs.Ended as ended
+use Rattle.number_writer.specs.Ended.{Ended, wrote}
+use Rattle.number_writer.specs.Ended as ended
 use Rattle.step_ends.specs.Steps.{Steps, unseen, stepEnds, count}
 use Rattle.sessions.specs.Places.{empty}
 use Rattle.fragments.specs.Output.{Out, recordsIn}

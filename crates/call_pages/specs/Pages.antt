@@ -10,7 +10,7 @@ use Rattle.tables.specs.Checks.{unless, andThen}
 use Rattle.tables.specs.declared.Check.{Check}
 use Rattle.checks.specs.Checked.{checksWithoutRoom}
 use Rattle.gather.specs.Run.Events as scan
-use Rattle.section_parts.specs.Sections.{scanSections}
+use Rattle.section_scan.specs.Sections.{scanSections}
 use Rattle.answers.specs.Outcome.{LeftKept}
 use Rattle.entries.specs.Demands.{Answers, Output}
 use Rattle.entries.specs.Entries.Keeps as keeping

@@ -3,7 +3,7 @@ ghost use mathlib.Core.Path.{_≡_};
 ghost use Prim.Native.Nat.{_≤_};
 ghost use lib.ListN.{drop};
 ghost use Rattle.cases.specs.Cases.{before, after, part, digit, spelled, Listed, Unhexed};
-use held::parts::rest;
+use buffer_contents::parts::rest;
 
 // The bytes before the first `b`, or all.
 pub fn before(s: &[u8], b: u8) -> &[u8]

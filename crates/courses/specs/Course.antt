@@ -7,7 +7,7 @@ use mathlib.Core.Bool.{cond}
 use mathlib.Core.List.{List, [], _++_}
 use lib.ListN.{length}
 use lib.Dec.{leb}
-use Rattle.written.specs.Ended.{Ended, wrote, refused}
+use Rattle.number_writer.specs.Ended.{Ended, wrote, refused}
 pub mod Laws
 
 -- bytes, with the next unread byte behind what they are written for, and the rest;

@@ -6,7 +6,7 @@ use mathlib.Core.List.{List}
 use Rattle.tables.specs.Lists.{Lists}
 use Rattle.gather.specs.Run.{Scan, say}
 use Rattle.gather.specs.Run as run
-use Rattle.section_parts.specs.Sections.{scanSections}
+use Rattle.section_scan.specs.Sections.{scanSections}
 use Rattle.read_back.specs.ReadBack.{recordOf, times}
 use Rattle.courses.specs.Course.{Course, adds, done, fault}
 pub mod Laws

@@ -19,7 +19,7 @@ use Rattle.gather.specs.Run.{gathers, eventsOf, Scan, acts}
 use Rattle.gather.specs.Run.Rendered.{rendered, valuesOf}
 use Rattle.gather.specs.Run.Events.{made}
 use Rattle.gather.specs.Run.Good.{gathers-good}
-use Rattle.section_parts.specs.Sections.{scanSections}
+use Rattle.section_scan.specs.Sections.{scanSections}
 use Rattle.changes.specs.Changes.{scanChanges}
 use Rattle.answers.specs.Outcome.{Left, Lent}
 use Rattle.entries.specs.Entries.{readSections, readChanges}

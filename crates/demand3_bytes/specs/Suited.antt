@@ -22,11 +22,11 @@ use Rattle.values.specs.Value.{onRead, unsigned, value, Suits}
 use Rattle.values.specs.Value.Laws.{value-suits}
 use Rattle.rules.specs.Gather.{time, write, stepEnd}
 use Rattle.gather.specs.Run.{Scan, say, done, fault, and-then}
-use Rattle.section_parts.specs.declared.NextId.{NextId}
-use Rattle.section_parts.specs.declared.NextId.the-variants as ids
-use Rattle.section_parts.specs.declared.NextTime.{NextTime}
-use Rattle.section_parts.specs.declared.NextTime.the-variants as times
-use Rattle.section_parts.specs.Sections.{field, endMark, eachValue, nextId, oneChange, changeList, nextTime, snapshot, oneStep, steps, cycle, entries, directory, oneSection, sections, scanSections}
+use Rattle.section_scan.specs.declared.NextId.{NextId}
+use Rattle.section_scan.specs.declared.NextId.the-variants as ids
+use Rattle.section_scan.specs.declared.NextTime.{NextTime}
+use Rattle.section_scan.specs.declared.NextTime.the-variants as times
+use Rattle.section_scan.specs.Sections.{field, endMark, eachValue, nextId, oneChange, changeList, nextTime, snapshot, oneStep, steps, cycle, entries, directory, oneSection, sections, scanSections}
 use Rattle.changes.specs.declared.Change.{Change}
 use Rattle.changes.specs.declared.Change.the-variants as change
 use Rattle.changes.specs.Changes.{nextChange, oneRecord, changes, scanChanges}

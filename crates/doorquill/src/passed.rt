@@ -20,7 +20,7 @@ use section_heads::How;
 ghost use mathlib.Core.Path.{_≡_};
 ghost use lib.ListN.{length};
 ghost use Rattle.tables.specs.Layout.{layoutOf, totalBytes};
-ghost use Rattle.section_parts.specs.Sections.{scanSections};
+ghost use Rattle.section_scan.specs.Sections.{scanSections};
 ghost use Rattle.answers.specs.Outcome.{leaves};
 ghost use Rattle.item_turns.specs.Lent.{tables};
 ghost use Rattle.entries.specs.Faces.{Checked, ran, Over, lent, left};

@@ -3,7 +3,7 @@ use records::Next;
 use records::Record;
 use records::next_event;
 use slices::copy_part;
-use written::Written;
+use number_writer::Written;
 ghost use mathlib.Core.Path.{_≡_};
 ghost use Prim.Native.Nat.{_≤_};
 ghost use lib.ListN.{length};

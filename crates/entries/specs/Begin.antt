@@ -22,7 +22,7 @@ use Rattle.rules.specs.Gather.{begin}
 use Rattle.records.specs.Out.{empty}
 use Rattle.vecstarts.specs.Numbers.{Shapes, filled}
 use Rattle.gather.specs.Run.{Scan, runAll, gathers}
-use Rattle.section_parts.specs.Sections.{scanSections}
+use Rattle.section_scan.specs.Sections.{scanSections}
 use Rattle.changes.specs.Changes.{scanChanges}
 use Rattle.gather.specs.Memory.{Mem, memOf, Holds}
 use Rattle.gather.specs.Follows.{Ends, Runs, Asks}

@@ -24,8 +24,8 @@ use Rattle.gather.specs.Run.Rendered.{rendered, valuesOf, stepsOf}
 use Rattle.gather.specs.Run.Events.{Ends, Overflows}
 use Rattle.gather.specs.Run.Times.{timesOf, made-steps}
 use Rattle.gather.specs.Run.Good.{gathers-good}
-use Rattle.section_parts.specs.Sections.{scanSections}
-use Rattle.section_parts.specs.Sections.Stepped.{sections-rising}
+use Rattle.section_scan.specs.Sections.{scanSections}
+use Rattle.section_scan.specs.Sections.Stepped.{sections-rising}
 use Rattle.changes.specs.Changes.{scanChanges}
 use Rattle.encoder.specs.Rule.Keeping.{records, unset, keptOf, bytesOf}
 use Rattle.encoder.specs.Rule.Keeping.Laws.{kept-part}

@@ -6,8 +6,8 @@ use mathlib.Core.Bool.{Bool, true, false, _&&_}
 use mathlib.Core.List.{List}
 use native.Mathlib.Omega.{arith}
 use lib.ListN.{length, take, length-take}
-use Rattle.written.specs.declared.Written.{Written}
-use Rattle.written.specs.declared.Written.the-variants.{Done, Refused}
+use Rattle.number_writer.specs.declared.Written.{Written}
+use Rattle.number_writer.specs.declared.Written.the-variants.{Done, Refused}
 use Rattle.tables.specs.Checks.{withinLimit}
 use Rattle.encoder.specs.Rule.{timeRule}
 use Rattle.encoder.specs.Rule.Promise.{Says, Applies}

@@ -17,7 +17,7 @@ use Rattle.records.specs.Out as outs
 use Rattle.records.specs.Stream as stream
 use Rattle.values.specs.Value as values
 use Rattle.gather.specs.Run as running
-use Rattle.section_parts.specs.Sections as section
+use Rattle.section_scan.specs.Sections as section
 use Rattle.changes.specs.Changes as change
 use Rattle.encoder.specs.Rule as rules
 use Rattle.answers.specs.Outcome as ending

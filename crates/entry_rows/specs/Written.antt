@@ -6,8 +6,8 @@ use mathlib.Core.Bool.{true, false}
 use mathlib.Core.List.{List, [], _∷_, _++_}
 use lib.ListN.{length, replicate}
 use Rattle.numbers.specs.Fixed.{bigBytes}
-use Rattle.written.specs.Shortest as shortest
-use Rattle.written.specs.Little as littles
+use Rattle.number_writer.specs.Shortest as shortest
+use Rattle.number_writer.specs.Little as littles
 use Rattle.tables.specs.Lists.{Lists}
 use Rattle.checks.specs.Checked as checks
 use Rattle.sections_writer.specs.Writer as writer

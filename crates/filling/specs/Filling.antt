@@ -9,9 +9,9 @@ use lib.ListN.{length, length-append}
 use Rattle.slices.specs.Splice.Laws.{splice-nil, length-splice}
 use Rattle.slices.specs.declared.Field.{Field}
 use Rattle.slices.specs.declared.Field.the-variants.{Next, Short}
-use Rattle.written.specs.Ended.{wrote, refused, Fills}
-use Rattle.written.specs.Put.{Puts, Lies, puts-more}
-use Rattle.written.specs.declared.Written.the-variants.{Done, Refused}
+use Rattle.number_writer.specs.Ended.{wrote, refused, Fills}
+use Rattle.number_writer.specs.Put.{Puts, Lies, puts-more}
+use Rattle.number_writer.specs.declared.Written.the-variants.{Done, Refused}
 pub mod Steps
 pub mod Fuel
 

@@ -6,7 +6,7 @@ use mathlib.Core.Bool.{cond}
 use mathlib.Core.List.{List, [], _∷_, _++_}
 use mathlib.Core.Logic.{_⊎_}
 use lib.ListN.{length}
-use Rattle.written.specs.Ended as ended
+use Rattle.number_writer.specs.Ended as ended
 use Rattle.step_ends.specs.declared.Watch.{Watch}
 use Rattle.step_ends.specs.Steps.{Steps, step, done, refused, unseen, rose, rises, count}
 use Rattle.sessions.specs.declared.Bench.{Bench}

@@ -7,6 +7,6 @@ fn main() {
     let mut input = [0u8; 32769];
     let n = io::read_full(STDIN_FILENO, &mut input);
     let mut text = [0u8; 65536];
-    let k = lines::print(&input[..n], &mut text);
+    let k = listing_text::print(&input[..n], &mut text);
     io::write_all(STDOUT_FILENO, &text[..k]);
 }

@@ -6,12 +6,12 @@ use mathlib.Core.List.{List, [], _∷_, _++_}
 use lib.ListN.{length, getD}
 use lib.Dec.{leb}
 use Rattle.numbers.specs.Fixed.{bigBytes}
-use Rattle.written.specs.Ended.{Ended, wrote, refused}
+use Rattle.number_writer.specs.Ended.{Ended, wrote, refused}
 use Rattle.states.specs.Letters.{ieee1164, crateOrder, placeOf}
 use Rattle.tables.specs.Lists.{Lists, nth}
 use Rattle.rules.specs.Gather.{Act, time, write, stepEnd}
 use Rattle.gather.specs.Run.{Scan, say, done, fault}
-use Rattle.section_parts.specs.Sections.{scanSections}
+use Rattle.section_scan.specs.Sections.{scanSections}
 pub mod Laws
 pub mod Turn
 pub mod Loop

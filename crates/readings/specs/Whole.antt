@@ -14,7 +14,7 @@ use Rattle.gather.specs.declared.Part.the-variants as part
 use Rattle.gather.specs.Run.{Scan, say, done, fault, run}
 use Rattle.gather.specs.Memory.{Mem, Sized, sized-self}
 use Rattle.gather.specs.Follows.{Asks, Runs}
-use Rattle.section_parts.specs.Sections.{scanSections}
+use Rattle.section_scan.specs.Sections.{scanSections}
 use Rattle.section_heads.specs.declared.How.{How}
 use Rattle.section_heads.specs.declared.Phase.{Phase}
 use Rattle.section_heads.specs.declared.Phase.the-variants.{Mark, Closing, Between}

@@ -15,7 +15,7 @@ use sections::after_values;
 use sections::head_item;
 use value_readings::read_values;
 ghost use mathlib.Core.Path.{_≡_};
-ghost use Rattle.section_parts.specs.Sections.{scanSections};
+ghost use Rattle.section_scan.specs.Sections.{scanSections};
 ghost use Rattle.gather.specs.Follows.{Asks, Runs};
 ghost use Rattle.item_turns.specs.Lent.{tables, lent, before, after};
 ghost use Rattle.value_readings.specs.Values.{ValuesAsk, behindOf};

@@ -26,7 +26,7 @@ use Rattle.gather.specs.Run.Rendered.{valuesOf, stepsOf}
 use Rattle.gather.specs.Run.Rendered.Laws.{all-rendered}
 use Rattle.gather.specs.Run.Events.{Says, made, later, Overflows}
 use Rattle.gather.specs.Run.Times.{timesOf, made-steps}
-use Rattle.section_parts.specs.Sections.{scanSections}
+use Rattle.section_scan.specs.Sections.{scanSections}
 use Rattle.changes.specs.Changes.{scanChanges}
 use Rattle.answers.specs.Outcome.{Left, Lent}
 use Rattle.entries.specs.Entries.{readSections, readChanges}

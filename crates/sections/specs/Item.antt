@@ -9,15 +9,15 @@ use Rattle.tables.specs.Lists.{nth}
 use Rattle.values.specs.declared.Read.{Read}
 use Rattle.values.specs.declared.Read.the-variants as read
 use Rattle.values.specs.Value.{onRead, value}
-use Rattle.section_parts.specs.Sections.{withKinds}
-use Rattle.section_parts.specs.Sections.{nextId, nextTime}
-use Rattle.section_parts.specs.declared.NextTime as scanned
-use Rattle.section_parts.specs.declared.NextTime.the-variants as times
+use Rattle.section_scan.specs.Sections.{withKinds}
+use Rattle.section_scan.specs.Sections.{nextId, nextTime}
+use Rattle.section_scan.specs.declared.NextTime as scanned
+use Rattle.section_scan.specs.declared.NextTime.the-variants as times
 use Rattle.sections.specs.declared.NextTime.{NextTime}
 use Rattle.sections.specs.declared.NextTime.the-variants as next
 use Rattle.numbers.specs.Marks.{ecy, esn}
-use Rattle.section_parts.specs.declared.NextId.{NextId}
-use Rattle.section_parts.specs.declared.NextId.the-variants as ids
+use Rattle.section_scan.specs.declared.NextId.{NextId}
+use Rattle.section_scan.specs.declared.NextId.the-variants as ids
 use Rattle.section_heads.specs.declared.How.{How}
 use Rattle.section_heads.specs.declared.Phase.{Phase}
 use Rattle.section_heads.specs.declared.Phase.the-variants.{Mark, Entries, Each, Closing, Listed, Between}

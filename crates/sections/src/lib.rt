@@ -23,7 +23,7 @@ ghost use Prim.Native.Nat.{_≤_};
 ghost use lib.ListN.{length};
 ghost use Rattle.tables.specs.Lists.{nth};
 ghost use Rattle.values.specs.Value.{value};
-ghost use Rattle.section_parts.specs.Sections.{nextTime};
+ghost use Rattle.section_scan.specs.Sections.{nextTime};
 ghost use Rattle.sections.specs.Item.{inValues, afterValues, idIn, nextOf, writeItem, valueItem, nextItem};
 ghost use Rattle.sections.specs.Item.{timeOf, timeItem, headItem};
 ghost use Rattle.sections.specs.Item.Code.{IdOf, Stands};

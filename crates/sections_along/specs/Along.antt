@@ -17,14 +17,14 @@ use Rattle.rules.specs.Gather.{write, stepEnd}
 use Rattle.vecmarks.specs.Info.{infoAt}
 use Rattle.gather.specs.Memory.{Tabled}
 use Rattle.gather.specs.Run.{Scan, say, and-then}
-use Rattle.section_parts.specs.Sections.{nextId, oneChange, changeList, nextTime, oneStep, steps, sections}
-use Rattle.section_parts.specs.Sections.Deltas.{id-found, id-same}
-use Rattle.section_parts.specs.declared.NextId.the-variants.{Id}
+use Rattle.section_scan.specs.Sections.{nextId, oneChange, changeList, nextTime, oneStep, steps, sections}
+use Rattle.section_scan.specs.Sections.Deltas.{id-found, id-same}
+use Rattle.section_scan.specs.declared.NextId.the-variants.{Id}
 use Rattle.section_heads.specs.declared.How.{How}
 use Rattle.section_heads.specs.declared.Phase.the-variants.{Listed}
 use Rattle.section_heads.specs.Heads.{standing}
 use Rattle.sections.specs.Item.Scans.{scanFrom, Left}
-use Rattle.runs.specs.Along.{bitMap, Taken, OfState, of-state}
+use Rattle.quiet_changes.specs.Along.{bitMap, Taken, OfState, of-state}
 use Rattle.along.specs.Follows.{Along, none, more, said}
 
 module _ {t : Lists} (k : Tabled t) {v : ℕ} (known : v < length (t .mins)) where

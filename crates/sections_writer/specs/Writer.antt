@@ -6,9 +6,9 @@ use mathlib.Core.List.{List, [], _∷_, _++_}
 use lib.ListN.{length, getD, replicate}
 use lib.Dec.{ltb, leb, eqb}
 use Rattle.numbers.specs.Marks.{cyc, ecy, tai}
-use Rattle.written.specs.Ended.{Ended, wrote, refused}
-use Rattle.written.specs.Shortest.{unsignedBytes, signedBytes}
-use Rattle.written.specs.Little.{littleBytes, fixedBytes}
+use Rattle.number_writer.specs.Ended.{Ended, wrote, refused}
+use Rattle.number_writer.specs.Shortest.{unsignedBytes, signedBytes}
+use Rattle.number_writer.specs.Little.{littleBytes, fixedBytes}
 use Rattle.tables.specs.Lists.{Lists, nth}
 use Rattle.changes.specs.Changes.{nextChange}
 use Rattle.changes.specs.declared.Change.{Change}

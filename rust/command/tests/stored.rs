@@ -200,7 +200,7 @@ fn fragments_as_the_program_prints_them() {
         .filter(|line| line.contains("\"fragment\""))
         .map(|line| format!("fragment {} {:08x}", number(line, "time_fs"), number(line, "session")))
         .collect();
-    let stored = fs::read_to_string("../../crates/bench_reassembly/stdout").unwrap();
+    let stored = fs::read_to_string("../../crates/reassembly_fragments/stdout").unwrap();
     let theirs: Vec<&str> = stored.lines().filter(|line| line.starts_with("fragment")).collect();
     assert!(!ours.is_empty());
     assert_eq!(ours, theirs);

@@ -1,6 +1,6 @@
 //! Section bytes and their tables to events, a line for each: what `./run-listing` prints, by the safe crate.
 //!
-//!     cargo run --example listing < crates/bench_reassembly/stdin
+//!     cargo run --example listing < crates/reassembly_fragments/stdin
 //!
 //! The input is the listing's (document 01): records 1 for signals and 2 for vectors, then 3, the byte order, and
 //! section bytes. Signal tables come from anywhere; `ghw::open` makes them from a `.ghw` file.

@@ -22,7 +22,7 @@ fn the_listings() {
 
 #[test]
 fn the_fragments_of_a_recorded_reassembly() {
-    let input = of("bench_reassembly", "stdin");
+    let input = of("reassembly_fragments", "stdin");
     let (tables, big_endian, sections) = listing::preamble(&input).expect("tables");
     let kept = read_sections(&tables, big_endian, sections).unwrap().time_rule().unwrap();
     let counted = kept.fragments(3, 4, 5).unwrap();
@@ -33,7 +33,7 @@ fn the_fragments_of_a_recorded_reassembly() {
             _ => None,
         })
         .collect();
-    assert!(lines.lines().count() > 50 && lines.into_bytes() == of("bench_reassembly", "stdout"));
+    assert!(lines.lines().count() > 50 && lines.into_bytes() == of("reassembly_fragments", "stdout"));
     // Every fragment is handed out or held.
     let (mut fragments, mut accounted) = (0, 0);
     for counted in counted {

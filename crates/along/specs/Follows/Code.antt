@@ -13,8 +13,8 @@ use Rattle.vecmarks.specs.declared.VecBufferInfo.{VecBufferInfo}
 use Rattle.vecmarks.specs.Info.{Inside, isQuiet}
 use Rattle.vecmarks.specs.Info.Keeps.{length-value, length-mark, inside-as}
 use Rattle.gather.specs.declared.VecInfo.{VecInfo}
-use Rattle.runs.specs.Along.{Taken, Took}
-use Rattle.runs.specs.Along.Code.{Takes}
+use Rattle.quiet_changes.specs.Along.{Taken, Took}
+use Rattle.quiet_changes.specs.Along.Code.{Takes}
 use Rattle.along.specs.declared.Reached.{Reached}
 use Rattle.along.specs.Follows.{Along, none, more, FollowAsks, Followed, isNear, AlongAsks, Ran, stays, follows}
 

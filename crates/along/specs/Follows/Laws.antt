@@ -27,7 +27,7 @@ use Rattle.gather.specs.Run.{gathers, Scan, say, fitted, acted, after, run}
 use Rattle.gather.specs.Memory.{memOf, Tabled, HoldsAt}
 use Rattle.gather.specs.Makes.{Seen}
 use Rattle.gather.specs.Quiet.{acts-quietly, quietly-on}
-use Rattle.runs.specs.Along.{bitMost, bitMap, Taken}
+use Rattle.quiet_changes.specs.Along.{bitMost, bitMap, Taken}
 use Rattle.along.specs.Follows.{Along, none, more, AlongAsks, said}
 
 map-small : (k : States) (b : ℕ) → b ≤ bitMost k → bitMap k b < 2 ^ bits k

@@ -9,8 +9,8 @@ use lib.ListN.{length, take-append-drop}
 use lib.Seq.{length-take-le}
 use Rattle.tables.specs.declared.Check.{Check}
 use Rattle.tables.specs.declared.Check.the-variants.{Passed, Refused}
-use Rattle.written.specs.Ended.{Ended, wrote}
-use Rattle.written.specs.Ended as ended
+use Rattle.number_writer.specs.Ended.{Ended, wrote}
+use Rattle.number_writer.specs.Ended as ended
 use Rattle.answers.specs.Outcome.{Outcome, accepted, refused, answer, eventBytes, valueBytes, padded, LeftKept, leavesKept}
 use Rattle.answers.specs.Outcome.Laws.{padded-front, padded-nothing, answer-events, refusal-is}
 use Rattle.answers.specs.Filled.{filled}

@@ -12,10 +12,10 @@ use Rattle.tables.specs.Checks.{unless, andThen}
 use Rattle.tables.specs.declared.Check.{Check}
 use Rattle.tables.specs.declared.Check.the-variants.{Passed, Refused}
 use Rattle.checks.specs.Checked.{checksWithoutRoom, without-number}
-use Rattle.written.specs.Ended as ended
+use Rattle.number_writer.specs.Ended as ended
 use Rattle.gather.specs.Run.Events as scan
-use Rattle.section_parts.specs.Sections.{scanSections}
-use Rattle.section_parts.specs.Sections.Stepped.{sections-number}
+use Rattle.section_scan.specs.Sections.{scanSections}
+use Rattle.section_scan.specs.Sections.Stepped.{sections-number}
 use Rattle.changes.specs.Changes.{scanChanges}
 use Rattle.changes.specs.Changes.Steps.{changes-number}
 use Rattle.encoder.specs.Rule.{Ruled, timeRule}
@@ -24,7 +24,7 @@ use Rattle.encoder.specs.Rule.Keeping.{Refusal}
 use Rattle.encoder.specs.Rule.Keeping.Refusals.{rule-refuses}
 use Rattle.sections_writer.specs.Writer as writer
 use Rattle.read_back.specs.ReadBack as back
-use Rattle.reread.specs.Reread.Refused.{Comes, Own, writes-as, Full, gives-as}
+use Rattle.written_scans.specs.Reread.Refused.{Comes, Own, writes-as, Full, gives-as}
 use Rattle.fragments.specs.Theorems.{Closes}
 use Rattle.fragments.specs.Theorems.Proofs.{closes}
 use Rattle.step_ends.specs.declared.Names.{Names}

@@ -6,8 +6,8 @@ use mathlib.Core.Bool.{Bool, true, false, cond}
 use mathlib.Core.List.{List, [], _∷_, _++_, append-assoc, append-nil}
 use lib.ListN.{length, length-append}
 use lib.Dec.{ltb, leb}
-use Rattle.written.specs.Ended.{Ended}
-use Rattle.written.specs.Ended as ended
+use Rattle.number_writer.specs.Ended.{Ended}
+use Rattle.number_writer.specs.Ended as ended
 use Rattle.step_ends.specs.declared.Names.{Names}
 use Rattle.step_ends.specs.declared.Watch.{Watch}
 use Rattle.step_ends.specs.Steps.{Steps, unseen, stepEnds, rose}

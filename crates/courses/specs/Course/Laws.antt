@@ -9,7 +9,7 @@ use borrow.Author.Tests.{leb-true, leb-false, le-leb, lt-leb}
 use lib.ListN.{length, length-append}
 use lib.Dec.{leb}
 use Rattle.slices.specs.Choice.{cond-ind}
-use Rattle.written.specs.Ended.{wrote, refused}
+use Rattle.number_writer.specs.Ended.{wrote, refused}
 use Rattle.courses.specs.Course.{Course, adds, done, fault, bytesOf, Ends, Faults, Overflows, fill}
 
 module _ (room : ℕ) where

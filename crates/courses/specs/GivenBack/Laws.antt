@@ -6,12 +6,12 @@ use mathlib.Core.Bool.{Bool, cond}
 use mathlib.Core.List.{List, [], _++_}
 use lib.ListN.{length}
 use lib.Dec.{leb}
-use Rattle.written.specs.Ended.{refused}
+use Rattle.number_writer.specs.Ended.{refused}
 use Rattle.tables.specs.Lists.{Lists}
 use Rattle.gather.specs.Run.{Scan, say}
 use Rattle.gather.specs.Run as run
 use Rattle.gather.specs.Run.Events as scan
-use Rattle.section_parts.specs.Sections.{scanSections}
+use Rattle.section_scan.specs.Sections.{scanSections}
 use Rattle.read_back.specs.ReadBack.{recordOf, times, giving, readBack}
 use Rattle.courses.specs.Course.{Ends, Faults, Told, fill}
 use Rattle.courses.specs.GivenBack.{givenFrom, givenBack}

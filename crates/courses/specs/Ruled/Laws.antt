@@ -16,8 +16,8 @@ use Rattle.records.specs.declared.Next.{Next}
 use Rattle.records.specs.declared.Next.the-variants.{Event, End, Bad}
 use Rattle.records.specs.Stream.{isTime, nextEvent}
 use Rattle.records.specs.Stream.Laws.{found-event}
-use Rattle.written.specs.Ended.{Ended}
-use Rattle.written.specs.Ended as ended
+use Rattle.number_writer.specs.Ended.{Ended}
+use Rattle.number_writer.specs.Ended as ended
 use Rattle.encoder.specs.declared.Clock.{Clock}
 use Rattle.encoder.specs.Rule.{keeps, ticks, times, Kept, Ruled, one, rule, timeRule}
 use Rattle.encoder.specs.Rule as rules

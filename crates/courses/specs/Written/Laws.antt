@@ -8,7 +8,7 @@ use native.Mathlib.Omega.{arith}
 use borrow.Author.Tests.{ne-eqb}
 use lib.ListN.{length}
 use lib.Dec.{ltb, leb, eqb}
-use Rattle.written.specs.Ended.{Ended, wrote, refused}
+use Rattle.number_writer.specs.Ended.{Ended, wrote, refused}
 use Rattle.tables.specs.Lists.{Lists, nth}
 use Rattle.rules.specs.Gather.{Act, time, write, stepEnd}
 use Rattle.gather.specs.Run.{Scan, say}

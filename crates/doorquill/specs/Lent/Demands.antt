@@ -14,7 +14,7 @@ use Rattle.tables.specs.declared.Check.the-variants.{Passed, Refused}
 use Rattle.rules.specs.Vector.{actsEarly}
 use Rattle.rules.specs.Demand3.{Demand3}
 use Rattle.gather.specs.Run.{gathers, acts}
-use Rattle.section_parts.specs.Sections.{scanSections}
+use Rattle.section_scan.specs.Sections.{scanSections}
 use Rattle.doorquill.specs.declared.Vector.{Vector}
 use Rattle.answers.specs.Outcome.{Outcome, refused, answer, eventBytes, valueBytes, padded, Lent, leaves}
 use Rattle.entries.specs.Entries.{checked, reads, readSections}

@@ -22,11 +22,11 @@ use Rattle.encoder.specs.declared.Clock.{Clock}
 use Rattle.encoder.specs.declared.Progress.{Progress}
 use Rattle.encoder.specs.declared.Turn.{Turn}
 use Rattle.encoder.specs.declared.Turn.the-variants.{More, Over}
-use Rattle.written.specs.declared.Written.{Written}
-use Rattle.written.specs.declared.Written.the-variants.{Done, Refused}
-use Rattle.written.specs.Ended as written
-use Rattle.written.specs.Ended.{Ended, wrote, Fills}
-use Rattle.written.specs.Put.{Puts}
+use Rattle.number_writer.specs.declared.Written.{Written}
+use Rattle.number_writer.specs.declared.Written.the-variants.{Done, Refused}
+use Rattle.number_writer.specs.Ended as written
+use Rattle.number_writer.specs.Ended.{Ended, wrote, Fills}
+use Rattle.number_writer.specs.Put.{Puts}
 use Rattle.filling.specs.Filling.{Filling, puts-none, filling-start, filling-used}
 use Rattle.filling.specs.Filling.Steps.{Step, goes, ends, stops, DoesBy}
 use Rattle.filling.specs.Filling.Fuel.{Ahead, onStep, Stepwise, Reading, reading-start, reading-turn}

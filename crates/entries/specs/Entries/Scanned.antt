@@ -10,8 +10,8 @@ use Rattle.tables.specs.Lists.{Lists}
 use Rattle.rules.specs.Steps.{Stepped}
 use Rattle.gather.specs.Run.{Scan, acts}
 use Rattle.gather.specs.Run.Events.{Ends, Faults}
-use Rattle.section_parts.specs.Sections.{scanSections}
-use Rattle.section_parts.specs.Sections.Stepped.{sections-stepped, sections-end, sections-number}
+use Rattle.section_scan.specs.Sections.{scanSections}
+use Rattle.section_scan.specs.Sections.Stepped.{sections-stepped, sections-end, sections-number}
 use Rattle.changes.specs.Changes.{scanChanges}
 use Rattle.changes.specs.Changes.Steps.{changes-stepped, changes-end, changes-number}
 

@@ -8,7 +8,7 @@ use lib.ListN.{length}
 use Rattle.tables.specs.Lists.{Lists}
 use Rattle.tables.specs.declared.Check.{Check}
 use Rattle.tables.specs.declared.Check.the-variants as check
-use Rattle.section_parts.specs.Sections.{withKinds}
+use Rattle.section_scan.specs.Sections.{withKinds}
 use Rattle.changes.specs.Changes.Record.{ofKinds}
 use Rattle.checks.specs.Checked.{checksWithoutRoom}
 use Rattle.sections_writer.specs.Writer as writer

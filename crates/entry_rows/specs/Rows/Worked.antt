@@ -13,7 +13,7 @@ use Rattle.values.specs.declared.Read.the-variants.{Value, Bad}
 use Rattle.values.specs.Value.{unsigned, signed}
 use Rattle.rules.specs.Gather.{time, write, stepEnd}
 use Rattle.gather.specs.Run.{say, done, fault}
-use Rattle.section_parts.specs.Sections.{scanSections}
+use Rattle.section_scan.specs.Sections.{scanSections}
 use Rattle.changes.specs.Changes.{scanChanges}
 use Rattle.answers.specs.Outcome.{Left, Lent}
 use Rattle.entries.specs.Entries.{readSections}

@@ -8,8 +8,8 @@ use native.Mathlib.Omega.{arith}
 use borrow.Author.Tests.{le-leb, lt-leb}
 use lib.ListN.{length}
 use lib.Dec.{leb}
-use Rattle.written.specs.Ended.{Ended, wrote, refused, Fills}
-use Rattle.written.specs.declared.Written.{Written}
+use Rattle.number_writer.specs.Ended.{Ended, wrote, refused, Fills}
+use Rattle.number_writer.specs.declared.Written.{Written}
 use Rattle.filling.specs.Filling.{Filling, filling-inside}
 use Rattle.filling.specs.Filling.Steps.{Step, goes, ends, stops, DoesBy, Takes, filling-step}
 

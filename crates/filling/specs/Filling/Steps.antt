@@ -6,10 +6,10 @@ use mathlib.Core.List.{List, _++_}
 use lib.ListN.{length}
 use Rattle.slices.specs.declared.Field.{Field}
 use Rattle.slices.specs.declared.Field.the-variants.{Next, Short}
-use Rattle.written.specs.Ended.{Ended, wrote, refused, Fills}
-use Rattle.written.specs.Put.{Puts}
-use Rattle.written.specs.declared.Written.{Written}
-use Rattle.written.specs.declared.Written.the-variants.{Done, Refused}
+use Rattle.number_writer.specs.Ended.{Ended, wrote, refused, Fills}
+use Rattle.number_writer.specs.Put.{Puts}
+use Rattle.number_writer.specs.declared.Written.{Written}
+use Rattle.number_writer.specs.declared.Written.the-variants.{Done, Refused}
 use Rattle.filling.specs.Filling.{Filling, filling-fits, filling-turn, filling-done, filling-full, filling-bad}
 
 -- bytes, and the state and the place after them; or the last bytes, how far was read and how many steps there were;

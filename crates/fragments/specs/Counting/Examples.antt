@@ -8,7 +8,7 @@ use lib.ListN.{replicate}
 use Rattle.slices.specs.Splice.{part}
 use Rattle.numbers.specs.Fixed.{big, bigBytes}
 use Rattle.records.specs.Stream.{eventLength, recordAt, isTime, inValues, judged, nextEvent}
-use Rattle.written.specs.Ended.{Ended, wrote, refused}
+use Rattle.number_writer.specs.Ended.{Ended, wrote, refused}
 use Rattle.step_ends.specs.declared.Names.{Names}
 use Rattle.step_ends.specs.declared.Watch.{Watch}
 use Rattle.step_ends.specs.Steps.{lineOf, twoOf, suits, shows, seeTime, seeValue, seeReal, seeEvent, seeNext, see, lastStep, onSeen, unseen, stepsFrom, stepEnds, rose}

@@ -9,9 +9,9 @@ use borrow.Author.Tests.{le-leb, lt-leb}
 use lib.ListN.{length, replicate}
 use Rattle.slices.specs.declared.Field.{Field}
 use Rattle.slices.specs.declared.Field.the-variants as field
-use Rattle.written.specs.Ended.{Ended, Fills}
-use Rattle.written.specs.Put.{Puts}
-use Rattle.written.specs.declared.Written.{Written}
+use Rattle.number_writer.specs.Ended.{Ended, Fills}
+use Rattle.number_writer.specs.Put.{Puts}
+use Rattle.number_writer.specs.declared.Written.{Written}
 use Rattle.filling.specs.Filling.{FillingBy, filling-start, filling-count, filling-used}
 use Rattle.filling.specs.Filling.{filling-stay, filling-behind, filling-turn}
 use Rattle.step_ends.specs.declared.Names.{Names}

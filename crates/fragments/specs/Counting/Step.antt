@@ -12,7 +12,7 @@ use Rattle.slices.specs.Choice.{cond-ind}
 use Rattle.slices.specs.Field.{fieldOf}
 use Rattle.slices.specs.declared.Field.{Field}
 use Rattle.slices.specs.declared.Field.the-variants as field
-use Rattle.written.specs.Put.{afterPut, Puts, puts-more}
+use Rattle.number_writer.specs.Put.{afterPut, Puts, puts-more}
 use Rattle.step_ends.specs.declared.Watch.{Watch}
 use Rattle.step_ends.specs.Steps.{rose}
 use Rattle.sessions.specs.declared.Bench.{Bench}

@@ -15,7 +15,7 @@ use Rattle.slices.specs.declared.Field.{Field}
 use Rattle.slices.specs.declared.Field.the-variants.{Next, Short}
 use Rattle.numbers.specs.Fixed.{bigBytes}
 use Rattle.numbers.specs.Fixed.Laws.{length-bigBytes}
-use Rattle.written.specs.Put.{afterPut, Puts, puts-one, puts-short, puts-more}
+use Rattle.number_writer.specs.Put.{afterPut, Puts, puts-one, puts-short, puts-more}
 use Rattle.sessions.specs.declared.Bench.{Bench}
 use Rattle.sessions.specs.Places.{isFree}
 use Rattle.fragments.specs.Output.{Out, fragment, closed, held, outBytes, bytesOf, heldAt, heldFrom, heldOf}

@@ -11,7 +11,7 @@ use lib.ListN.{length, getD, length-append}
 use lib.Dec.{leb, eqb}
 use Rattle.slices.specs.Choice.{cond-ind}
 use Rattle.numbers.specs.Fixed.Laws.{Bytes}
-use Rattle.written.specs.Ended as ended
+use Rattle.number_writer.specs.Ended as ended
 use Rattle.step_ends.specs.declared.Names.{Names}
 use Rattle.step_ends.specs.declared.Watch.{Watch}
 use Rattle.step_ends.specs.Steps.{Steps, step, done, refused, unseen, stepEnds, rose, risesFrom, rises, count}

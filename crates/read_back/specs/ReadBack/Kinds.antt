@@ -7,11 +7,11 @@ use mathlib.Core.List.{List, [], _++_}
 use native.Mathlib.Omega.{arith}
 use lib.ListN.{length}
 use lib.Dec.{leb}
-use Rattle.written.specs.Ended.{refused}
+use Rattle.number_writer.specs.Ended.{refused}
 use Rattle.tables.specs.Lists.{Lists}
 use Rattle.rules.specs.Gather.{time, write, stepEnd}
 use Rattle.gather.specs.Run.{Scan}
-use Rattle.section_parts.specs.Sections.{withKinds}
+use Rattle.section_scan.specs.Sections.{withKinds}
 use Rattle.section_heads.specs.Heads.{standing}
 use Rattle.section_heads.specs.declared.How.{How}
 use Rattle.section_heads.specs.declared.Phase.the-variants.{Mark}

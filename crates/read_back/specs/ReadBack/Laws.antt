@@ -7,7 +7,7 @@ use native.Mathlib.Nat.{add-zero, add-assoc}
 use native.Mathlib.Omega.{arith}
 use borrow.Author.Tests.{le-leb}
 use lib.ListN.{length, length-append}
-use Rattle.written.specs.Ended.{wrote, refused}
+use Rattle.number_writer.specs.Ended.{wrote, refused}
 use Rattle.states.specs.Letters.{ieee1164, crateOrder, placeOf, mapped}
 use Rattle.tables.specs.Lists.{Lists}
 use Rattle.gather.specs.Run.{Scan, say, done, fault}

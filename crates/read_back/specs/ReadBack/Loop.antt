@@ -9,12 +9,12 @@ use native.Mathlib.Omega.{arith}
 use borrow.Author.Tests.{le-leb, lt-leb}
 use lib.ListN.{length}
 use Rattle.slices.specs.declared.Field.the-variants.{Next}
-use Rattle.written.specs.Ended.{Ended, refused, Fills}
+use Rattle.number_writer.specs.Ended.{Ended, refused, Fills}
 use Rattle.filling.specs.Filling.{Filling, puts-none, filling-start, filling-used, filling-inside}
 use Rattle.filling.specs.Filling.Steps.{Step, Takes, filling-step}
 use Rattle.tables.specs.Lists.{Lists}
 use Rattle.gather.specs.Run.{Scan}
-use Rattle.section_parts.specs.Sections.{withKinds}
+use Rattle.section_scan.specs.Sections.{withKinds}
 use Rattle.section_heads.specs.Heads.{standing}
 use Rattle.section_heads.specs.declared.How.{How}
 use Rattle.section_heads.specs.declared.Phase.the-variants.{Mark}
@@ -28,8 +28,8 @@ use Rattle.sections.specs.Item.Scans.{sayOf, rank, saidTimes, ends, toRead, sca
 use Rattle.read_back.specs.declared.Progress.{Progress}
 use Rattle.read_back.specs.declared.Turn.{Turn}
 use Rattle.read_back.specs.declared.Turn.the-variants.{More, Stops}
-use Rattle.written.specs.declared.Written.{Written}
-use Rattle.written.specs.declared.Written.the-variants.{Done, Refused}
+use Rattle.number_writer.specs.declared.Written.{Written}
+use Rattle.number_writer.specs.declared.Written.the-variants.{Done, Refused}
 use Rattle.read_back.specs.ReadBack.{recordOf, times, giving, readBack}
 use Rattle.read_back.specs.ReadBack.Turn.{saidBytes, Sounds, Counts, Does}
 use Rattle.read_back.specs.ReadBack.Turn.{going, taking, stepBy, stepOf, step-taking}

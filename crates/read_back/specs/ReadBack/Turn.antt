@@ -18,8 +18,8 @@ use Rattle.slices.specs.declared.Field.{Field}
 use Rattle.slices.specs.declared.Field.the-variants.{Next, Short}
 use Rattle.numbers.specs.Fixed.{bigBytes}
 use Rattle.numbers.specs.Fixed.Laws.{length-bigBytes, bigBytes-low}
-use Rattle.written.specs.Put.{afterPut, Puts, puts-one, puts-short, puts-more}
-use Rattle.written.specs.Little.{fixedBytes}
+use Rattle.number_writer.specs.Put.{afterPut, Puts, puts-one, puts-short, puts-more}
+use Rattle.number_writer.specs.Little.{fixedBytes}
 use Rattle.states.specs.Letters.{ieee1164, crateOrder, placeOf}
 use Rattle.tables.specs.Lists.{nth}
 use Rattle.values.specs.Value.{mostOf, Suits}
@@ -33,7 +33,7 @@ use Rattle.filling.specs.Filling.Steps.{Step, DoesBy}
 use Rattle.read_back.specs.declared.Progress.{Progress}
 use Rattle.read_back.specs.declared.Turn.{Turn}
 use Rattle.read_back.specs.declared.Turn.the-variants.{More, Stops}
-use Rattle.written.specs.declared.Written.the-variants.{Refused}
+use Rattle.number_writer.specs.declared.Written.the-variants.{Refused}
 use Rattle.read_back.specs.ReadBack.{unmapped, byteOf, writeOf}
 use Rattle.sections.specs.Item.Code.{IdOf}
 use Rattle.sections.specs.Item.Scans.{saidTimes, ends, Sound}

@@ -22,8 +22,8 @@ use Rattle.rules.specs.Vector.Laws.{by-test}
 use Rattle.rules.specs.Gather.{Act, time, write, stepEnd}
 use Rattle.gather.specs.Run.{Scan, say}
 use Rattle.gather.specs.Run as run
-use Rattle.section_parts.specs.Sections.{scanSections}
-use Rattle.section_parts.specs.Sections.Stepped.{sections-number}
+use Rattle.section_scan.specs.Sections.{scanSections}
+use Rattle.section_scan.specs.Sections.Stepped.{sections-number}
 use Rattle.read_back.specs.ReadBack.{writeOf, recordOf, times}
 use Rattle.entries.specs.Written.{readBack}
 use Rattle.courses.specs.Course.{bytesOf}

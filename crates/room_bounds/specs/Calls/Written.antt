@@ -12,10 +12,10 @@ use lib.ListN.{length, length-append, replicate}
 use lib.Dec.{ltb, leb, eqb}
 use Rattle.slices.specs.Choice.{cond-ind, le-or-lt}
 use Rattle.numbers.specs.Marks.{ecy, tai}
-use Rattle.written.specs.Shortest.{unsignedBytes, signedBytes}
-use Rattle.written.specs.Shortest.Groups.{unsigned-short}
-use Rattle.written.specs.Shortest.Laws.{bytes-most}
-use Rattle.written.specs.Little.Laws.{length-littleBytes, length-fixedBytes}
+use Rattle.number_writer.specs.Shortest.{unsignedBytes, signedBytes}
+use Rattle.number_writer.specs.Shortest.Groups.{unsigned-short}
+use Rattle.number_writer.specs.Shortest.Laws.{bytes-most}
+use Rattle.number_writer.specs.Little.Laws.{length-littleBytes, length-fixedBytes}
 use Rattle.tables.specs.Lists.{Lists, nth, signals}
 use Rattle.tables.specs.Checks.Laws.{then-passed}
 use Rattle.tables.specs.Good.Laws as good

@@ -22,11 +22,11 @@ use Rattle.values.specs.Value.Laws.{Ahead, unsigned-ahead, signed-ahead, value-
 use Rattle.rules.specs.Gather.{Act, time, write, stepEnd}
 use Rattle.gather.specs.Run.{Scan, done, fault, and-then}
 use Rattle.gather.specs.Run.Ordered.{then-then}
-use Rattle.section_parts.specs.declared.NextId.{NextId}
-use Rattle.section_parts.specs.declared.NextId.the-variants as ids
-use Rattle.section_parts.specs.declared.NextTime.{NextTime}
-use Rattle.section_parts.specs.declared.NextTime.the-variants as times
-use Rattle.section_parts.specs.Sections.{field, endMark, eachValue, nextId, oneChange, changeList, nextTime, snapshot, oneStep, steps, cycle, entries, directory, oneSection, sections, scanSections}
+use Rattle.section_scan.specs.declared.NextId.{NextId}
+use Rattle.section_scan.specs.declared.NextId.the-variants as ids
+use Rattle.section_scan.specs.declared.NextTime.{NextTime}
+use Rattle.section_scan.specs.declared.NextTime.the-variants as times
+use Rattle.section_scan.specs.Sections.{field, endMark, eachValue, nextId, oneChange, changeList, nextTime, snapshot, oneStep, steps, cycle, entries, directory, oneSection, sections, scanSections}
 use Rattle.room_bounds.specs.Costs.{Covers}
 
 -- what the bytes of each part pay for; `spare` is left of a step's end and pays for a part of the next time

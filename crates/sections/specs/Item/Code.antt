@@ -12,10 +12,10 @@ use Rattle.slices.specs.Choice.{cond-ind}
 use Rattle.tables.specs.Lists.{nth}
 use Rattle.values.specs.declared.Read.{Read}
 use Rattle.values.specs.Value.{onRead, unsigned, value, signed}
-use Rattle.section_parts.specs.Sections.{withKinds}
-use Rattle.section_parts.specs.Sections.{nextId, nextTime}
-use Rattle.section_parts.specs.Sections.Deltas.{IdAhead, id-ahead, id-bad, id-end, id-found, id-past, time-bad, time-end, time-found, time-past}
-use Rattle.section_parts.specs.declared.NextId.{NextId}
+use Rattle.section_scan.specs.Sections.{withKinds}
+use Rattle.section_scan.specs.Sections.{nextId, nextTime}
+use Rattle.section_scan.specs.Sections.Deltas.{IdAhead, id-ahead, id-bad, id-end, id-found, id-past, time-bad, time-end, time-found, time-past}
+use Rattle.section_scan.specs.declared.NextId.{NextId}
 use Rattle.section_heads.specs.declared.How.{How}
 use Rattle.section_heads.specs.declared.Phase.{Phase}
 use Rattle.section_heads.specs.declared.Phase.the-variants.{Each, Closing, Between, Entries, Listed}
@@ -25,7 +25,7 @@ use Rattle.section_heads.specs.declared.Item.{Item}
 use Rattle.numbers.specs.Marks.{ecy, esn}
 use Rattle.sections.specs.declared.NextTime.{NextTime}
 use Rattle.values.specs.declared.Read.the-variants as read
-use Rattle.section_parts.specs.declared.NextId.the-variants as ids
+use Rattle.section_scan.specs.declared.NextId.the-variants as ids
 use Rattle.sections.specs.declared.NextTime.the-variants as next
 use Rattle.section_heads.specs.Heads.{standing, goes, begins, bad, endItem, entryItem}
 use Rattle.sections.specs.Item.{timeOf, timeItem, headOf, headItem, inValues, isEach, afterValues, idOf, idIn, eachId, nextOf, writeItem, foundItem, valueItem, nextItem}

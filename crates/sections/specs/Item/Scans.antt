@@ -24,12 +24,12 @@ use Rattle.values.specs.Value.{onRead, value, Suits}
 use Rattle.values.specs.Value.Laws.{Ahead, value-ahead, value-suits}
 use Rattle.rules.specs.Gather.{time, write, stepEnd}
 use Rattle.gather.specs.Run.{Scan, say, done, fault, and-then}
-use Rattle.section_parts.specs.Sections.{field, endMark, eachValue, nextId, oneChange, changeList, nextTime, snapshot, oneStep, steps, cycle, entries, directory, oneSection, sections, scanSections}
-use Rattle.section_parts.specs.Sections.Deltas.{IdAhead, id-ahead, id-none, id-same, TimeAhead, time-ahead}
-use Rattle.section_parts.specs.declared.NextId.{NextId}
-use Rattle.section_parts.specs.declared.NextId.the-variants as ids
-use Rattle.section_parts.specs.declared.NextTime.{NextTime}
-use Rattle.section_parts.specs.declared.NextTime.the-variants as times
+use Rattle.section_scan.specs.Sections.{field, endMark, eachValue, nextId, oneChange, changeList, nextTime, snapshot, oneStep, steps, cycle, entries, directory, oneSection, sections, scanSections}
+use Rattle.section_scan.specs.Sections.Deltas.{IdAhead, id-ahead, id-none, id-same, TimeAhead, time-ahead}
+use Rattle.section_scan.specs.declared.NextId.{NextId}
+use Rattle.section_scan.specs.declared.NextId.the-variants as ids
+use Rattle.section_scan.specs.declared.NextTime.{NextTime}
+use Rattle.section_scan.specs.declared.NextTime.the-variants as times
 use Rattle.section_heads.specs.declared.How.{How}
 use Rattle.section_heads.specs.declared.Phase.{Phase}
 use Rattle.section_heads.specs.declared.Phase.the-variants.{Mark, Entries, Each, Closing, Listed, Between}

@@ -8,9 +8,9 @@ use lib.ListN.{replicate}
 use Rattle.slices.specs.Splice.{part}
 use Rattle.numbers.specs.Fixed.{big, little, bigBytes}
 use Rattle.numbers.specs.Marks.{cyc, ecy, tai}
-use Rattle.written.specs.Ended.{Ended, wrote, refused}
-use Rattle.written.specs.Shortest.{fits, rest, groups}
-use Rattle.written.specs.Little.{littleBytes, fixedBytes}
+use Rattle.number_writer.specs.Ended.{Ended, wrote, refused}
+use Rattle.number_writer.specs.Shortest.{fits, rest, groups}
+use Rattle.number_writer.specs.Little.{littleBytes, fixedBytes}
 use Rattle.states.specs.Letters.{mapped}
 use Rattle.tables.specs.Lists.{Lists, lists, nth, signals}
 use Rattle.values.specs.Value.{onRead, byteUpTo, value}

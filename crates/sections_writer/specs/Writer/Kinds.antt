@@ -6,7 +6,7 @@ use mathlib.Core.Bool.{Bool, cond}
 use mathlib.Core.List.{List, [], _++_}
 use lib.ListN.{length}
 use lib.Dec.{leb}
-use Rattle.written.specs.Ended.{Ended, wrote, refused}
+use Rattle.number_writer.specs.Ended.{Ended, wrote, refused}
 use Rattle.tables.specs.Lists.{Lists}
 use Rattle.changes.specs.declared.Change.{Change}
 use Rattle.changes.specs.declared.Change.the-variants as change

@@ -8,7 +8,7 @@ use native.Mathlib.Omega.{arith}
 use lib.ListN.{length, getD}
 use lib.Dec.{ltb}
 use Rattle.slices.specs.Choice.{cond-ind}
-use Rattle.written.specs.Ended.{Ended, Fills}
+use Rattle.number_writer.specs.Ended.{Ended, Fills}
 use Rattle.filling.specs.Filling.{Filling, filling-start, filling-used}
 use Rattle.filling.specs.Filling.Steps.{Step}
 use Rattle.filling.specs.Filling.Fuel.{Ahead, onStep, Stepwise, Reading, reading-start, reading-turn}
@@ -22,8 +22,8 @@ use Rattle.sections_writer.specs.declared.Pen.{Pen}
 use Rattle.sections_writer.specs.declared.Progress.{Progress}
 use Rattle.sections_writer.specs.declared.Turn.{Turn}
 use Rattle.sections_writer.specs.declared.Turn.the-variants.{More, Over}
-use Rattle.written.specs.declared.Written.{Written}
-use Rattle.written.specs.declared.Written.the-variants.{Refused}
+use Rattle.number_writer.specs.declared.Written.{Written}
+use Rattle.number_writer.specs.declared.Written.the-variants.{Refused}
 use Rattle.sections_writer.specs.Writer.{begin, timeGood, stepped, closing, one, writing, writeSections}
 use Rattle.sections_writer.specs.Writer.{Given, goes, ends, stops, givenTime, givenWrite, given}
 use Rattle.sections_writer.specs.Writer.Turn.{EndsIn, IdOf, stepOf, going, Does}

@@ -12,10 +12,10 @@ use Rattle.slices.specs.Field.{fieldOf}
 use Rattle.slices.specs.declared.Field.{Field}
 use Rattle.slices.specs.declared.Field.the-variants.{Next, Short}
 use Rattle.numbers.specs.Marks.{cyc, ecy, tai}
-use Rattle.written.specs.Put.{afterPut, Puts, puts-one, puts-short, puts-more}
-use Rattle.written.specs.Shortest.{unsignedBytes, signedBytes}
-use Rattle.written.specs.Little.{littleBytes, fixedBytes}
-use Rattle.written.specs.Little.Laws.{length-littleBytes, length-fixedBytes}
+use Rattle.number_writer.specs.Put.{afterPut, Puts, puts-one, puts-short, puts-more}
+use Rattle.number_writer.specs.Shortest.{unsignedBytes, signedBytes}
+use Rattle.number_writer.specs.Little.{littleBytes, fixedBytes}
+use Rattle.number_writer.specs.Little.Laws.{length-littleBytes, length-fixedBytes}
 use Rattle.filling.specs.Filling.{puts-none}
 use Rattle.filling.specs.Filling.Steps as step
 use Rattle.filling.specs.Filling.Steps.{Step, landed, DoesBy}
@@ -23,7 +23,7 @@ use Rattle.sections_writer.specs.declared.Pen.{Pen}
 use Rattle.sections_writer.specs.declared.Progress.{Progress}
 use Rattle.sections_writer.specs.declared.Turn.{Turn}
 use Rattle.sections_writer.specs.declared.Turn.the-variants.{More, Over}
-use Rattle.written.specs.declared.Written.the-variants.{Done, Refused}
+use Rattle.number_writer.specs.declared.Written.the-variants.{Done, Refused}
 use Rattle.sections_writer.specs.Writer.{Given, goes, ends, stops, timeBytes, timeGood, timed, valueBytes, writeBytes, wroteTo, stepped, cycleEnd, closing, givenTime, givenWrite}
 
 -- a record ends before a place of the input

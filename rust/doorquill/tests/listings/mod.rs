@@ -4,7 +4,7 @@ use std::fs;
 /// The file's name under `rust/samples`, the listing's input and its text.
 pub fn listings() -> Vec<(&'static str, Vec<u8>, String)> {
     let stored = |file| {
-        let path = format!("{}/../../crates/listings/{file}", env!("CARGO_MANIFEST_DIR"));
+        let path = format!("{}/../../crates/run_listings/{file}", env!("CARGO_MANIFEST_DIR"));
         fs::read_to_string(&path).unwrap_or_else(|e| panic!("{path}: {e}"))
     };
     let (input, printed) = (stored("stdin"), stored("stdout"));
