@@ -1,3 +1,4 @@
+-- Written by tools/proof-answers from proofs.map.
 -- `along::near` meets its contract: each need follows from `near-laws`. Assumes nothing.
 use Rattle.along.specs.Follows.Code.{near-laws}
 use borrow.Author.Needs.{needs}

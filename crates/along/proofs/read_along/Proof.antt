@@ -1,3 +1,4 @@
+-- Written by tools/proof-answers from proofs.map.
 -- `along::read_along` meets its contract: each need follows from `along-laws`. Assumes nothing.
 use Rattle.along.specs.Follows.Code.{along-laws}
 use borrow.Author.Needs.{needs}

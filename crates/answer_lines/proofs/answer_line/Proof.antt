@@ -1,3 +1,4 @@
+-- Written by tools/proof-answers from proofs.map.
 -- `answer_lines::answer_line` meets its contract: each need follows from `told-laws`. Assumes nothing.
 use Rattle.answer_lines.specs.Told.Code.{told-laws}
 use borrow.Author.Needs.{needs}

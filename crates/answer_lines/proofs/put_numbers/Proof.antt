@@ -1,3 +1,4 @@
+-- Written by tools/proof-answers from proofs.map.
 -- `answer_lines::put_numbers` meets its contract: each need follows from `numbers-laws`. Assumes nothing.
 use Rattle.answer_lines.specs.Told.Code.{numbers-laws}
 use borrow.Author.Needs.{needs}

@@ -1,3 +1,4 @@
+-- Written by tools/proof-answers from proofs.map.
 -- `answer_lines::put_pair` meets its contract: each need follows from `pair-laws`. Assumes nothing.
 use Rattle.answer_lines.specs.Told.Code.{pair-laws}
 use borrow.Author.Needs.{needs}

@@ -1,3 +1,4 @@
+-- Written by tools/proof-answers from proofs.map.
 -- `answer_lines::put_reported` meets its contract: each need follows from `reported-laws`. Assumes nothing.
 use Rattle.answer_lines.specs.Told.Code.{reported-laws}
 use borrow.Author.Needs.{needs}

@@ -1,3 +1,4 @@
+-- Written by tools/proof-answers from proofs.map.
 -- `answer_lines::put_spaced` meets its contract: each need follows from `spaced-laws`. Assumes nothing.
 use Rattle.answer_lines.specs.Told.Code.{spaced-laws}
 use borrow.Author.Needs.{needs}

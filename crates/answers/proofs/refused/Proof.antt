@@ -1,3 +1,4 @@
+-- Written by tools/proof-answers from proofs.map.
 -- `answers::refused` meets its contract: each need follows from `past-laws`. Assumes nothing.
 use borrow.Author.Needs.{needs}
 use Rattle.answers.specs.Kept.{past-laws}

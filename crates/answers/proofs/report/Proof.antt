@@ -1,3 +1,4 @@
+-- Written by tools/proof-answers from proofs.map.
 -- `answers::report` meets its contract: each need follows from `report-laws`. Assumes nothing.
 use Rattle.answers.specs.Report.{report-laws}
 use borrow.Author.Needs.{needs}

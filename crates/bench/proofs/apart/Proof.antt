@@ -1,3 +1,4 @@
+-- Written by tools/proof-answers from proofs.map.
 -- `bench::apart` meets its contract: each need follows from `apart-laws`. Assumes nothing.
 use borrow.Author.Needs.{needs}
 use Rattle.bench.specs.Bench.Laws.{apart-laws}

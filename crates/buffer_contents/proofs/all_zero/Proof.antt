@@ -1,3 +1,4 @@
+-- Written by tools/proof-answers from proofs.map.
 -- `buffer_contents::all_zero` meets its contract: each need follows from `zero-laws`. Assumes nothing.
 use Prim.Native.Nat.{_-_}
 use lib.ListN.{length}

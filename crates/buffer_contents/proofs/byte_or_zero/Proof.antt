@@ -1,3 +1,4 @@
+-- Written by tools/proof-answers from proofs.map.
 -- `buffer_contents::byte_or_zero` meets its contract: each need follows from `byte-laws`. Assumes nothing.
 use Rattle.buffer_contents.specs.Held.Code.{byte-laws}
 use borrow.Author.Needs.{needs}

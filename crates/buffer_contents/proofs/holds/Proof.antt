@@ -1,3 +1,4 @@
+-- Written by tools/proof-answers from proofs.map.
 -- `buffer_contents::holds` meets its contract: each need follows from `held-laws`. Assumes nothing.
 use Prim.Native.Nat.{_-_}
 use lib.ListN.{length}

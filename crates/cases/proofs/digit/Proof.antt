@@ -1,3 +1,4 @@
+-- Written by tools/proof-answers from proofs.map.
 -- `cases::digit` meets its contract: each need follows from `digit-laws`. Assumes nothing.
 use borrow.Author.Needs.{needs}
 use Rattle.cases.specs.Cases.Code.{digit-laws}

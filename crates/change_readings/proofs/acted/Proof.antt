@@ -1,3 +1,4 @@
+-- Written by tools/proof-answers from proofs.map.
 -- `change_readings::acted` meets its contract: each need follows from `acted-laws`. Assumes nothing.
 use Rattle.change_readings.specs.Records.Code.{acted-laws}
 use borrow.Author.Needs.{needs}

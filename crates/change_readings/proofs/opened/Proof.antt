@@ -1,3 +1,4 @@
+-- Written by tools/proof-answers from proofs.map.
 -- `change_readings::opened` meets its contract: each need follows from `opened-laws`. Assumes nothing.
 use Rattle.change_readings.specs.Records.Code.{opened-laws}
 use borrow.Author.Needs.{needs}

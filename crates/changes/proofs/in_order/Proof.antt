@@ -1,3 +1,4 @@
+-- Written by tools/proof-answers from proofs.map.
 -- `changes::in_order` meets its contract: each need follows from `order-laws`. Assumes nothing.
 use Rattle.changes.specs.Changes.Record.{order-laws}
 use borrow.Author.Needs.{needs}

@@ -1,3 +1,4 @@
+-- Written by tools/proof-answers from proofs.map.
 -- `changes::record_length` meets its contract: each need follows from `length-laws`. Assumes nothing.
 use borrow.Author.Needs.{needs}
 use Rattle.changes.specs.Changes.Whole.{length-laws}

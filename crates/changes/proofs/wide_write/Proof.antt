@@ -1,3 +1,4 @@
+-- Written by tools/proof-answers from proofs.map.
 -- `changes::wide_write` meets its contract: each need follows from `written-laws`. Assumes nothing.
 use Rattle.changes.specs.Changes.Record.{written-laws}
 use borrow.Author.Needs.{needs}

@@ -1,3 +1,4 @@
+-- Written by tools/proof-answers from proofs.map.
 -- `changes::write_record` meets its contract: each need follows from `write-laws`. Assumes nothing.
 use borrow.Author.Needs.{needs}
 use Rattle.changes.specs.Changes.Record.{write-laws}

@@ -1,3 +1,4 @@
+-- Written by tools/proof-answers from proofs.map.
 -- `checks::checks_without_room` meets its contract: each need follows from `checked-laws`. Assumes nothing.
 use Rattle.checks.specs.Checked.{checked-laws}
 use borrow.Author.Needs.{needs}

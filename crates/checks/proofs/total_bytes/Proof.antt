@@ -1,3 +1,4 @@
+-- Written by tools/proof-answers from proofs.map.
 -- `checks::total_bytes` meets its contract: each need follows from `room-laws`. Assumes nothing.
 use Prim.Native.Nat.{_-_}
 use lib.ListN.{length}

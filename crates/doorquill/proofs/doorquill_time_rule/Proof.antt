@@ -1,3 +1,4 @@
+-- Written by tools/proof-answers from proofs.map.
 -- `doorquill::doorquill_time_rule` meets its contract: each need follows from `rule-laws`. Assumes nothing.
 use Rattle.entries.specs.Kept.{rule-laws}
 use borrow.Author.Needs.{needs}

@@ -1,3 +1,4 @@
+-- Written by tools/proof-answers from proofs.map.
 -- `flat_runs::clear_all` meets its contract: each need follows from `zero-laws`. Assumes nothing.
 use Rattle.flat_runs.specs.Runs.{zero-laws}
 use borrow.Author.Needs.{needs}

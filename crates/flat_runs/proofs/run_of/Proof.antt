@@ -1,3 +1,4 @@
+-- Written by tools/proof-answers from proofs.map.
 -- `flat_runs::run_of` meets its contract: each need follows from `run-laws`. Assumes nothing.
 use Rattle.flat_runs.specs.Runs.{run-laws}
 use borrow.Author.Needs.{needs}

@@ -1,3 +1,4 @@
+-- Written by tools/proof-answers from proofs.map.
 -- `fragment_counting::finish` meets its contract: each need follows from `finish-laws`. Assumes nothing.
 use Rattle.fragments.specs.Counting.Turn.{finish-laws}
 use borrow.Author.Needs.{needs}

@@ -1,3 +1,4 @@
+-- Written by tools/proof-answers from proofs.map.
 -- `fragment_counting::one_end` meets its contract: each need follows from `last-laws`. Assumes nothing.
 use Rattle.fragments.specs.Counting.Turn.{last-laws}
 use borrow.Author.Needs.{needs}

@@ -1,3 +1,4 @@
+-- Written by tools/proof-answers from proofs.map.
 -- `fragment_counting::one_step` meets its contract: each need follows from `step-laws`. Assumes nothing.
 use Rattle.fragments.specs.Counting.Turn.{step-laws}
 use borrow.Author.Needs.{needs}

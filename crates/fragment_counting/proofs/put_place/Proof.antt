@@ -1,3 +1,4 @@
+-- Written by tools/proof-answers from proofs.map.
 -- `fragment_counting::put_place` meets its contract: each need follows from `held-place-laws`. Assumes nothing.
 use Rattle.fragments.specs.Output.Code.{held-place-laws}
 use borrow.Author.Needs.{needs}

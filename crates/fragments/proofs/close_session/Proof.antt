@@ -1,3 +1,4 @@
+-- Written by tools/proof-answers from proofs.map.
 -- `fragments::close_session` meets its contract: each need follows from `close-laws`. Assumes nothing.
 use Rattle.fragments.specs.Counting.Step.{close-laws}
 use borrow.Author.Needs.{needs}

@@ -1,3 +1,4 @@
+-- Written by tools/proof-answers from proofs.map.
 -- `fragments::count_fragment` meets its contract: each need follows from `fragment-laws`. Assumes nothing.
 use Rattle.fragments.specs.Counting.Step.{fragment-laws}
 use borrow.Author.Needs.{needs}

@@ -1,3 +1,4 @@
+-- Written by tools/proof-answers from proofs.map.
 -- `fragments::count_rise` meets its contract: each need follows from `rise-laws`. Assumes nothing.
 use Rattle.fragments.specs.Counting.Step.{rise-laws}
 use borrow.Author.Needs.{needs}

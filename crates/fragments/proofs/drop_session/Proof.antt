@@ -1,3 +1,4 @@
+-- Written by tools/proof-answers from proofs.map.
 -- `fragments::drop_session` meets its contract: each need follows from `drop-laws`. Assumes nothing.
 use Rattle.fragments.specs.Counting.Step.{drop-laws}
 use borrow.Author.Needs.{needs}

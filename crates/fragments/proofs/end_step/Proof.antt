@@ -1,3 +1,4 @@
+-- Written by tools/proof-answers from proofs.map.
 -- `fragments::end_step` meets its contract: each need follows from `end-laws`. Assumes nothing.
 use Rattle.fragments.specs.Counting.Step.{end-laws}
 use borrow.Author.Needs.{needs}

@@ -1,3 +1,4 @@
+-- Written by tools/proof-answers from proofs.map.
 -- `fragments::rose` meets its contract: each need follows from `rose-laws`. Assumes nothing.
 use borrow.Author.Needs.{needs}
 use Rattle.fragments.specs.Counting.Step.{rose-laws}

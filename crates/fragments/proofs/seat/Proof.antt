@@ -1,3 +1,4 @@
+-- Written by tools/proof-answers from proofs.map.
 -- `fragments::seat` meets its contract: each need follows from `seat-laws`. Assumes nothing.
 use Rattle.fragments.specs.Counting.Step.{seat-laws}
 use borrow.Author.Needs.{needs}

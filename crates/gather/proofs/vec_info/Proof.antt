@@ -1,3 +1,4 @@
+-- Written by tools/proof-answers from proofs.map.
 -- `gather::vec_info` meets its contract: each need follows from `info-laws`. Assumes nothing.
 use Rattle.gather.specs.Writes.{info-laws}
 use borrow.Author.Needs.{needs}

@@ -1,3 +1,4 @@
+-- Written by tools/proof-answers from proofs.map.
 -- `leb128::nine` meets its contract: each need follows from `nine-laws`. Assumes nothing.
 use Prim.Native.Nat.{_-_}
 use lib.ListN.{length}

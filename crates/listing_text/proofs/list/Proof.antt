@@ -1,3 +1,4 @@
+-- Written by tools/proof-answers from proofs.map.
 -- `listing_text::list` meets its contract: each need follows from `list-laws`. Assumes nothing.
 use Rattle.listing_text.specs.Listing.Code.{list-laws}
 use borrow.Author.Needs.{needs}

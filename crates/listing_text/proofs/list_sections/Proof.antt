@@ -1,3 +1,4 @@
+-- Written by tools/proof-answers from proofs.map.
 -- `listing_text::list_sections` meets its contract: each need follows from `section-laws`. Assumes nothing.
 use Rattle.listing_text.specs.Listing.Code.{section-laws}
 use borrow.Author.Needs.{needs}

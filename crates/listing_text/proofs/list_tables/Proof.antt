@@ -1,3 +1,4 @@
+-- Written by tools/proof-answers from proofs.map.
 -- `listing_text::list_tables` meets its contract: each need follows from `table-laws`. Assumes nothing.
 use Rattle.listing_text.specs.Listing.Code.{table-laws}
 use borrow.Author.Needs.{needs}

@@ -1,3 +1,4 @@
+-- Written by tools/proof-answers from proofs.map.
 -- `listing_text::print` meets its contract: each need follows from `print-laws`. Assumes nothing.
 use Rattle.listing_text.specs.Listing.Length.{print-laws}
 use borrow.Author.Needs.{needs}

@@ -1,3 +1,4 @@
+-- Written by tools/proof-answers from proofs.map.
 -- `listing_text::refuse` meets its contract: each need follows from `refuse-laws`. Assumes nothing.
 use Rattle.listing_text.specs.Listing.Code.{refuse-laws}
 use borrow.Author.Needs.{needs}

@@ -1,3 +1,4 @@
+-- Written by tools/proof-answers from proofs.map.
 -- `listing_text::tell` meets its contract: each need follows from `tell-laws`. Assumes nothing.
 use Rattle.listing_text.specs.Listing.Code.{tell-laws}
 use borrow.Author.Needs.{needs}

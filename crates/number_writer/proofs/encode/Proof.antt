@@ -1,3 +1,4 @@
+-- Written by tools/proof-answers from proofs.map.
 -- `number_writer::encode` meets its contract: each need follows from `encode-laws`. Assumes nothing.
 use Prim.Native.Nat.{_-_}
 use lib.ListN.{length}

@@ -1,3 +1,4 @@
+-- Written by tools/proof-answers from proofs.map.
 -- `number_writer::put` meets its contract: each need follows from `put-laws`. Assumes nothing.
 use Rattle.number_writer.specs.Shortest.Code.{put-laws}
 use borrow.Author.Needs.{needs}

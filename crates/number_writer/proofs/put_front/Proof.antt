@@ -1,3 +1,4 @@
+-- Written by tools/proof-answers from proofs.map.
 -- `number_writer::put_front` meets its contract: each need follows from `front-laws`. Assumes nothing.
 use Rattle.number_writer.specs.Shortest.Code.{front-laws}
 use borrow.Author.Needs.{needs}

@@ -1,3 +1,4 @@
+-- Written by tools/proof-answers from proofs.map.
 -- `number_writer::rest` meets its contract: each need follows from `seven-laws`. Assumes nothing.
 use Rattle.number_writer.specs.Shortest.Code.{seven-laws}
 use borrow.Author.Needs.{needs}

@@ -1,3 +1,4 @@
+-- Written by tools/proof-answers from proofs.map.
 -- `number_writer::spell_little` meets its contract: each need follows from `spell-laws`. Assumes nothing.
 use Prim.Native.Nat.{_-_}
 use lib.ListN.{length}

@@ -1,3 +1,4 @@
+-- Written by tools/proof-answers from proofs.map.
 -- `plain_text::glyph` meets its contract: each need follows from `digit-laws`. Assumes nothing.
 use Rattle.plain_text.specs.Text.Laws.{digit-laws}
 use borrow.Author.Needs.{needs}

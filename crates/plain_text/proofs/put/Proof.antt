@@ -1,3 +1,4 @@
+-- Written by tools/proof-answers from proofs.map.
 -- `plain_text::put` meets its contract: each need follows from `put-laws`. Assumes nothing.
 use Rattle.plain_text.specs.Text.Laws.{put-laws}
 use borrow.Author.Needs.{needs}

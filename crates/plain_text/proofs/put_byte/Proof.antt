@@ -1,3 +1,4 @@
+-- Written by tools/proof-answers from proofs.map.
 -- `plain_text::put_byte` meets its contract: each need follows from `byte-laws`. Assumes nothing.
 use Rattle.plain_text.specs.Text.Laws.{byte-laws}
 use borrow.Author.Needs.{needs}

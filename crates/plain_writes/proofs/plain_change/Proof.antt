@@ -1,3 +1,4 @@
+-- Written by tools/proof-answers from proofs.map.
 -- `plain_writes::plain_change` meets its contract: each need follows from `plain-laws`. Assumes nothing.
 use Rattle.plain_writes.specs.Plain.Code.{plain-laws}
 use borrow.Author.Needs.{needs}

@@ -1,3 +1,4 @@
+-- Written by tools/proof-answers from proofs.map.
 -- `plain_writes::put_plain` meets its contract: each need follows from `put-laws`. Assumes nothing.
 use Rattle.plain_writes.specs.Plain.Code.{put-laws}
 use borrow.Author.Needs.{needs}

@@ -1,3 +1,4 @@
+-- Written by tools/proof-answers from proofs.map.
 -- `plain_writes::write_alone` meets its contract: each need follows from `alone-laws`. Assumes nothing.
 use Rattle.plain_writes.specs.Plain.Code.{alone-laws}
 use borrow.Author.Needs.{needs}

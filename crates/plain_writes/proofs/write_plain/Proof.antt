@@ -1,3 +1,4 @@
+-- Written by tools/proof-answers from proofs.map.
 -- `plain_writes::write_plain` meets its contract: each need follows from `at-laws`. Assumes nothing.
 use Rattle.plain_writes.specs.Plain.Code.{at-laws}
 use borrow.Author.Needs.{needs}

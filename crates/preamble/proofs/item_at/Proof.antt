@@ -1,3 +1,4 @@
+-- Written by tools/proof-answers from proofs.map.
 -- `preamble::item_at` meets its contract: each need follows from `at-laws`. Assumes nothing.
 use Rattle.preamble.specs.Preamble.Code.{at-laws}
 use borrow.Author.Needs.{needs}

@@ -1,3 +1,4 @@
+-- Written by tools/proof-answers from proofs.map.
 -- `preamble::item_length` meets its contract: each need follows from `length-laws`. Assumes nothing.
 use borrow.Author.Needs.{needs}
 use Rattle.preamble.specs.Preamble.Code.{length-laws}

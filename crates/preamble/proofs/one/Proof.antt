@@ -1,3 +1,4 @@
+-- Written by tools/proof-answers from proofs.map.
 -- `preamble::one` meets its contract: each need follows from `one-laws`. Assumes nothing.
 use Rattle.preamble.specs.Preamble.Loop.{one-laws}
 use borrow.Author.Needs.{needs}

@@ -1,3 +1,4 @@
+-- Written by tools/proof-answers from proofs.map.
 -- `preamble::whole_item` meets its contract: each need follows from `whole-laws`. Assumes nothing.
 use Rattle.preamble.specs.Preamble.Code.{whole-laws}
 use borrow.Author.Needs.{needs}

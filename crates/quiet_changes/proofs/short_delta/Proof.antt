@@ -1,3 +1,4 @@
+-- Written by tools/proof-answers from proofs.map.
 -- `quiet_changes::short_delta` meets its contract: each need follows from `delta-laws`. Assumes nothing.
 use Rattle.quiet_changes.specs.Along.Code.{delta-laws}
 use borrow.Author.Needs.{needs}

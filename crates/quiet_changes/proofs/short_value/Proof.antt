@@ -1,3 +1,4 @@
+-- Written by tools/proof-answers from proofs.map.
 -- `quiet_changes::short_value` meets its contract: each need follows from `value-laws`. Assumes nothing.
 use Rattle.quiet_changes.specs.Along.Code.{value-laws}
 use borrow.Author.Needs.{needs}

@@ -1,3 +1,4 @@
+-- Written by tools/proof-answers from proofs.map.
 -- `quiet_changes::store_down` meets its contract: each need follows from `store-laws`. Assumes nothing.
 use Rattle.quiet_changes.specs.Along.Code.{store-laws}
 use borrow.Author.Needs.{needs}

@@ -1,3 +1,4 @@
+-- Written by tools/proof-answers from proofs.map.
 -- `range_names::check_names` meets its contract: each need follows from `names-laws`. Assumes nothing.
 use Prim.Native.Nat.{_-_}
 use lib.ListN.{length}

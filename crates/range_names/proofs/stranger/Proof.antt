@@ -1,3 +1,4 @@
+-- Written by tools/proof-answers from proofs.map.
 -- `range_names::stranger` meets its contract: each need follows from `scan-laws`. Assumes nothing.
 use Prim.Native.Nat.{_-_}
 use borrow.Author.Needs.{needs}

@@ -1,3 +1,4 @@
+-- Written by tools/proof-answers from proofs.map.
 -- `range_names::stranger_in` meets its contract: each need follows from `names-laws`. Assumes nothing.
 use Rattle.tables.specs.Checks.Loops.{names-laws}
 use borrow.Author.Needs.{needs}

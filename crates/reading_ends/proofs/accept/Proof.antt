@@ -1,3 +1,4 @@
+-- Written by tools/proof-answers from proofs.map.
 -- `reading_ends::accept` meets its contract: each need follows from `accepted-laws`. Assumes nothing.
 use Rattle.reading_ends.specs.Reading.{accepted-laws}
 use borrow.Author.Needs.{needs}

@@ -1,3 +1,4 @@
+-- Written by tools/proof-answers from proofs.map.
 -- `reading_ends::clear_used` meets its contract: each need follows from `used-laws`. Assumes nothing.
 use Rattle.reading_ends.specs.Reading.{used-laws}
 use borrow.Author.Needs.{needs}

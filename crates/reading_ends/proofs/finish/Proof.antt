@@ -1,3 +1,4 @@
+-- Written by tools/proof-answers from proofs.map.
 -- `reading_ends::finish` meets its contract: each need follows from `finish-laws`. Assumes nothing.
 use Rattle.reading_ends.specs.Reading.{finish-laws}
 use borrow.Author.Needs.{needs}

@@ -1,3 +1,4 @@
+-- Written by tools/proof-answers from proofs.map.
 -- `reading_ends::refuse_used` meets its contract: each need follows from `refused-laws`. Assumes nothing.
 use Rattle.reading_ends.specs.Reading.{refused-laws}
 use borrow.Author.Needs.{needs}

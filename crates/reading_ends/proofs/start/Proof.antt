@@ -1,3 +1,4 @@
+-- Written by tools/proof-answers from proofs.map.
 -- `reading_ends::start` meets its contract: each need follows from `start-laws`. Assumes nothing.
 use Rattle.reading_ends.specs.Reading.{start-laws}
 use borrow.Author.Needs.{needs}

@@ -1,3 +1,4 @@
+-- Written by tools/proof-answers from proofs.map.
 -- `records::judge` meets its contract: each need follows from `judge-laws`. Assumes nothing.
 use Rattle.records.specs.Stream.Code.{judge-laws}
 use borrow.Author.Needs.{needs}

@@ -1,3 +1,4 @@
+-- Written by tools/proof-answers from proofs.map.
 -- `records::may_stand` meets its contract: each need follows from `test-laws`. Assumes nothing.
 use Rattle.records.specs.Stream.Code.{test-laws}
 use borrow.Author.Needs.{needs}

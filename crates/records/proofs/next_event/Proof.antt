@@ -1,3 +1,4 @@
+-- Written by tools/proof-answers from proofs.map.
 -- `records::next_event` meets its contract: each need follows from `next-laws`. Assumes nothing.
 use Rattle.records.specs.Stream.Code.{next-laws}
 use borrow.Author.Needs.{needs}

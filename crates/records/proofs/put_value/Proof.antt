@@ -1,3 +1,4 @@
+-- Written by tools/proof-answers from proofs.map.
 -- `records::put_value` meets its contract: each need follows from `put-laws`. Assumes nothing.
 use Rattle.records.specs.Event.Code.{put-laws}
 use borrow.Author.Needs.{needs}

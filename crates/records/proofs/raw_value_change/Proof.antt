@@ -1,3 +1,4 @@
+-- Written by tools/proof-answers from proofs.map.
 -- `records::raw_value_change` meets its contract: each need follows from `raw-laws`. Assumes nothing.
 use Rattle.records.specs.Out.Code.{raw-laws}
 use borrow.Author.Needs.{needs}

@@ -1,3 +1,4 @@
+-- Written by tools/proof-answers from proofs.map.
 -- `records::record_at` meets its contract: each need follows from `record-laws`. Assumes nothing.
 use Rattle.records.specs.Stream.Code.{record-laws}
 use borrow.Author.Needs.{needs}

@@ -1,3 +1,4 @@
+-- Written by tools/proof-answers from proofs.map.
 -- `records::room_for` meets its contract: each need follows from `room-laws`. Assumes nothing.
 use Rattle.records.specs.Out.Code.{room-laws}
 use borrow.Author.Needs.{needs}

@@ -1,3 +1,4 @@
+-- Written by tools/proof-answers from proofs.map.
 -- `records::states_of` meets its contract: each need follows from `kind-laws`. Assumes nothing.
 use borrow.Author.Needs.{needs}
 use Rattle.records.specs.Stream.Code.{kind-laws}

@@ -1,3 +1,4 @@
+-- Written by tools/proof-answers from proofs.map.
 -- `section_heads::end_item` meets its contract: each need follows from `end-laws`. Assumes nothing.
 use Rattle.section_heads.specs.Heads.Code.{end-laws}
 use borrow.Author.Needs.{needs}

@@ -1,3 +1,4 @@
+-- Written by tools/proof-answers from proofs.map.
 -- `section_heads::entry_item` meets its contract: each need follows from `entry-laws`. Assumes nothing.
 use Rattle.section_heads.specs.Heads.Code.{entry-laws}
 use borrow.Author.Needs.{needs}

@@ -1,3 +1,4 @@
+-- Written by tools/proof-answers from proofs.map.
 -- `section_heads::open_cycle` meets its contract: each need follows from `cycle-laws`. Assumes nothing.
 use Rattle.section_heads.specs.Heads.Code.{cycle-laws}
 use borrow.Author.Needs.{needs}

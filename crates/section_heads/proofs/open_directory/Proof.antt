@@ -1,3 +1,4 @@
+-- Written by tools/proof-answers from proofs.map.
 -- `section_heads::open_directory` meets its contract: each need follows from `directory-laws`. Assumes nothing.
 use Rattle.section_heads.specs.Heads.Code.{directory-laws}
 use borrow.Author.Needs.{needs}

@@ -1,3 +1,4 @@
+-- Written by tools/proof-answers from proofs.map.
 -- `section_heads::open_snapshot` meets its contract: each need follows from `snapshot-laws`. Assumes nothing.
 use Rattle.section_heads.specs.Heads.Code.{snapshot-laws}
 use borrow.Author.Needs.{needs}

@@ -1,3 +1,4 @@
+-- Written by tools/proof-answers from proofs.map.
 -- `section_heads::open_tailer` meets its contract: each need follows from `tailer-laws`. Assumes nothing.
 use Rattle.section_heads.specs.Heads.Code.{tailer-laws}
 use borrow.Author.Needs.{needs}

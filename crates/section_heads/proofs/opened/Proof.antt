@@ -1,3 +1,4 @@
+-- Written by tools/proof-answers from proofs.map.
 -- `section_heads::opened` meets its contract: each need follows from `opens-laws`. Assumes nothing.
 use Rattle.section_heads.specs.Heads.Code.{opens-laws}
 use borrow.Author.Needs.{needs}

@@ -1,3 +1,4 @@
+-- Written by tools/proof-answers from proofs.map.
 -- `section_heads::section_item` meets its contract: each need follows from `section-laws`. Assumes nothing.
 use Rattle.section_heads.specs.Heads.Code.{section-laws}
 use borrow.Author.Needs.{needs}

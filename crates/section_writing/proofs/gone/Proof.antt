@@ -1,3 +1,4 @@
+-- Written by tools/proof-answers from proofs.map.
 -- `section_writing::gone` meets its contract: each need follows from `gone-laws`. Assumes nothing.
 use Rattle.sections_writer.specs.Writer.Turn.{gone-laws}
 use borrow.Author.Needs.{needs}

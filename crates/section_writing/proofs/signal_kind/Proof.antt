@@ -1,3 +1,4 @@
+-- Written by tools/proof-answers from proofs.map.
 -- `section_writing::signal_kind` meets its contract: each need follows from `record-laws`. Assumes nothing.
 use Rattle.sections_writer.specs.Writer.Loop.{record-laws}
 use borrow.Author.Needs.{needs}

@@ -1,3 +1,4 @@
+-- Written by tools/proof-answers from proofs.map.
 -- `sections::after_values` meets its contract: each need follows from `after-laws`. Assumes nothing.
 use Rattle.sections.proofs.Arms.{after-laws}
 use borrow.Author.Needs.{needs}

@@ -1,3 +1,4 @@
+-- Written by tools/proof-answers from proofs.map.
 -- `sections::head_item` meets its contract: each need follows from `place-laws`. Assumes nothing.
 use Rattle.sections.proofs.Arms.{place-laws}
 use borrow.Author.Needs.{needs}

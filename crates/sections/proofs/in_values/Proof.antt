@@ -1,3 +1,4 @@
+-- Written by tools/proof-answers from proofs.map.
 -- `sections::in_values` meets its contract: each need follows from `in-values-laws`. Assumes nothing.
 use Rattle.sections.proofs.Arms.{in-values-laws}
 use borrow.Author.Needs.{needs}

@@ -1,3 +1,4 @@
+-- Written by tools/proof-answers from proofs.map.
 -- `sections::next_id` meets its contract: each need follows from `in-laws`. Assumes nothing.
 use Rattle.sections.specs.Item.Code.{in-laws}
 use borrow.Author.Needs.{needs}

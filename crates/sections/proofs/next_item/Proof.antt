@@ -1,3 +1,4 @@
+-- Written by tools/proof-answers from proofs.map.
 -- `sections::next_item` meets its contract: each need follows from `item-laws`. Assumes nothing.
 use Rattle.sections.specs.Item.Code.{item-laws}
 use borrow.Author.Needs.{needs}

@@ -1,3 +1,4 @@
+-- Written by tools/proof-answers from proofs.map.
 -- `sections::next_of` meets its contract: each need follows from `next-laws`. Assumes nothing.
 use Rattle.sections.proofs.Arms.{next-laws}
 use borrow.Author.Needs.{needs}

@@ -1,3 +1,4 @@
+-- Written by tools/proof-answers from proofs.map.
 -- `sections::next_time` meets its contract: each need follows from `to-laws`. Assumes nothing.
 use Rattle.sections.specs.Item.Code.{to-laws}
 use borrow.Author.Needs.{needs}

@@ -1,3 +1,4 @@
+-- Written by tools/proof-answers from proofs.map.
 -- `sections::signal_kind` meets its contract: each need follows from `kind-laws`. Assumes nothing.
 use Rattle.sections.specs.Item.Code.{kind-laws}
 use borrow.Author.Needs.{needs}

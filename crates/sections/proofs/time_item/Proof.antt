@@ -1,3 +1,4 @@
+-- Written by tools/proof-answers from proofs.map.
 -- `sections::time_item` meets its contract: each need follows from `delta-laws`. Assumes nothing.
 use Rattle.sections.specs.Item.Code.{delta-laws}
 use borrow.Author.Needs.{needs}

@@ -1,3 +1,4 @@
+-- Written by tools/proof-answers from proofs.map.
 -- `sections::value_at` meets its contract: each need follows from `value-laws`. Assumes nothing.
 use Rattle.values.specs.Value.Laws.{value-laws}
 use borrow.Author.Needs.{needs}

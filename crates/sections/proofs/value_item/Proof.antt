@@ -1,3 +1,4 @@
+-- Written by tools/proof-answers from proofs.map.
 -- `sections::value_item` meets its contract: each need follows from `value-laws`. Assumes nothing.
 use Rattle.sections.specs.Item.Code.{value-laws}
 use borrow.Author.Needs.{needs}

@@ -1,3 +1,4 @@
+-- Written by tools/proof-answers from proofs.map.
 -- `sections::write_item` meets its contract: each need follows from `write-laws`. Assumes nothing.
 use Rattle.sections.specs.Item.Code.{write-laws}
 use borrow.Author.Needs.{needs}

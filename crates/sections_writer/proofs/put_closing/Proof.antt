@@ -1,3 +1,4 @@
+-- Written by tools/proof-answers from proofs.map.
 -- `sections_writer::put_closing` meets its contract: each need follows from `closing-laws`. Assumes nothing.
 use Rattle.sections_writer.specs.Writer.Turn.{closing-laws}
 use borrow.Author.Needs.{needs}

@@ -1,3 +1,4 @@
+-- Written by tools/proof-answers from proofs.map.
 -- `sections_writer::put_cycle_end` meets its contract: each need follows from `cycle-laws`. Assumes nothing.
 use Rattle.sections_writer.specs.Writer.Turn.{cycle-laws}
 use borrow.Author.Needs.{needs}

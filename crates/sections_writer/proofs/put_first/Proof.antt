@@ -1,3 +1,4 @@
+-- Written by tools/proof-answers from proofs.map.
 -- `sections_writer::put_first` meets its contract: each need follows from `first-laws`. Assumes nothing.
 use Rattle.sections_writer.specs.Writer.Turn.{first-laws}
 use borrow.Author.Needs.{needs}

@@ -1,3 +1,4 @@
+-- Written by tools/proof-answers from proofs.map.
 -- `sections_writer::put_tailer` meets its contract: each need follows from `tailer-laws`. Assumes nothing.
 use Rattle.sections_writer.specs.Writer.Turn.{tailer-laws}
 use borrow.Author.Needs.{needs}

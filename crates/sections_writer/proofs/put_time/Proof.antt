@@ -1,3 +1,4 @@
+-- Written by tools/proof-answers from proofs.map.
 -- `sections_writer::put_time` meets its contract: each need follows from `time-laws`. Assumes nothing.
 use Rattle.sections_writer.specs.Writer.Turn.{time-laws}
 use borrow.Author.Needs.{needs}

@@ -1,3 +1,4 @@
+-- Written by tools/proof-answers from proofs.map.
 -- `sections_writer::put_value` meets its contract: each need follows from `value-laws`. Assumes nothing.
 use Rattle.sections_writer.specs.Writer.Turn.{value-laws}
 use borrow.Author.Needs.{needs}

@@ -1,3 +1,4 @@
+-- Written by tools/proof-answers from proofs.map.
 -- `sections_writer::put_write` meets its contract: each need follows from `write-laws`. Assumes nothing.
 use Rattle.sections_writer.specs.Writer.Turn.{write-laws}
 use borrow.Author.Needs.{needs}

@@ -1,3 +1,4 @@
+-- Written by tools/proof-answers from proofs.map.
 -- `sections_writer::time_good` meets its contract: each need follows from `good-laws`. Assumes nothing.
 use borrow.Author.Needs.{needs}
 use Rattle.sections_writer.specs.Writer.Turn.{good-laws}

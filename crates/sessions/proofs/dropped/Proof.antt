@@ -1,3 +1,4 @@
+-- Written by tools/proof-answers from proofs.map.
 -- `sessions::dropped` meets its contract: each need follows from `place-laws`. Assumes nothing.
 use Rattle.sessions.specs.Places.Code.{place-laws}
 use borrow.Author.Needs.{needs}

@@ -1,3 +1,4 @@
+-- Written by tools/proof-answers from proofs.map.
 -- `sessions::free_place` meets its contract: each need follows from `free-laws`. Assumes nothing.
 use Prim.Native.Nat.{_-_}
 use lib.ListN.{length}

@@ -1,3 +1,4 @@
+-- Written by tools/proof-answers from proofs.map.
 -- `sessions::is_at` meets its contract: each need follows from `at-laws`. Assumes nothing.
 use Rattle.sessions.specs.Places.Code.{at-laws}
 use borrow.Author.Needs.{needs}

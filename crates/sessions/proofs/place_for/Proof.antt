@@ -1,3 +1,4 @@
+-- Written by tools/proof-answers from proofs.map.
 -- `sessions::place_for` meets its contract: each need follows from `for-laws`. Assumes nothing.
 use Rattle.sessions.specs.Places.Code.{for-laws}
 use borrow.Author.Needs.{needs}

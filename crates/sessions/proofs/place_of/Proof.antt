@@ -1,3 +1,4 @@
+-- Written by tools/proof-answers from proofs.map.
 -- `sessions::place_of` meets its contract: each need follows from `seek-laws`. Assumes nothing.
 use Prim.Native.Nat.{_-_}
 use lib.ListN.{length}

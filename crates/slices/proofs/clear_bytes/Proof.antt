@@ -1,3 +1,4 @@
+-- Written by tools/proof-answers from proofs.map.
 -- `slices::clear_bytes` meets its contract: each need follows from `clear-laws`. Assumes nothing.
 use Prim.Native.Nat.{_-_}
 use lib.ListN.{length}

@@ -1,3 +1,4 @@
+-- Written by tools/proof-answers from proofs.map.
 -- `slices::copy_part` meets its contract: each need follows from `copy-laws`. Assumes nothing.
 use Prim.Native.Nat.{_-_}
 use lib.ListN.{length}

@@ -1,3 +1,4 @@
+-- Written by tools/proof-answers from proofs.map.
 -- `slices::field_at` meets its contract: each need follows from `field-laws`. Assumes nothing.
 use Rattle.slices.specs.Field.{field-laws}
 use borrow.Author.Needs.{needs}

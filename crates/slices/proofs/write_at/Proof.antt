@@ -1,3 +1,4 @@
+-- Written by tools/proof-answers from proofs.map.
 -- `slices::write_at` meets its contract: each need follows from `write-laws`. Assumes nothing.
 use Rattle.slices.specs.Splice.Loops.{write-laws}
 use borrow.Author.Needs.{needs}

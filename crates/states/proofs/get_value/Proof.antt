@@ -1,3 +1,4 @@
+-- Written by tools/proof-answers from proofs.map.
 -- `states::get_value` meets its contract: each need follows from `place-laws`. Assumes nothing.
 use Rattle.states.specs.Packed.Laws.{place-laws}
 use borrow.Author.Needs.{needs}

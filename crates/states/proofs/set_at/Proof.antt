@@ -1,3 +1,4 @@
+-- Written by tools/proof-answers from proofs.map.
 -- `states::set_at` meets its contract: each need follows from `field-laws`. Assumes nothing.
 use Rattle.states.specs.Packed.Laws.{field-laws}
 use borrow.Author.Needs.{needs}

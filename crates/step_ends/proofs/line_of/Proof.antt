@@ -1,3 +1,4 @@
+-- Written by tools/proof-answers from proofs.map.
 -- `step_ends::line_of` meets its contract: each need follows from `line-laws`. Assumes nothing.
 use borrow.Author.Needs.{needs}
 use Rattle.step_ends.specs.Steps.Code.{line-laws}

@@ -1,3 +1,4 @@
+-- Written by tools/proof-answers from proofs.map.
 -- `step_ends::see` meets its contract: each need follows from `see-laws`. Assumes nothing.
 use Rattle.step_ends.specs.Steps.Code.{see-laws}
 use borrow.Author.Needs.{needs}

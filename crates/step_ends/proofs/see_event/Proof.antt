@@ -1,3 +1,4 @@
+-- Written by tools/proof-answers from proofs.map.
 -- `step_ends::see_event` meets its contract: each need follows from `event-laws`. Assumes nothing.
 use Rattle.step_ends.specs.Steps.Code.{event-laws}
 use borrow.Author.Needs.{needs}

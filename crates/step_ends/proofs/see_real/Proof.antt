@@ -1,3 +1,4 @@
+-- Written by tools/proof-answers from proofs.map.
 -- `step_ends::see_real` meets its contract: each need follows from `real-laws`. Assumes nothing.
 use Rattle.step_ends.specs.Steps.Code.{real-laws}
 use borrow.Author.Needs.{needs}

@@ -1,3 +1,4 @@
+-- Written by tools/proof-answers from proofs.map.
 -- `step_ends::see_time` meets its contract: each need follows from `time-laws`. Assumes nothing.
 use Rattle.step_ends.specs.Steps.Code.{time-laws}
 use borrow.Author.Needs.{needs}

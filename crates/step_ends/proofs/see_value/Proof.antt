@@ -1,3 +1,4 @@
+-- Written by tools/proof-answers from proofs.map.
 -- `step_ends::see_value` meets its contract: each need follows from `value-laws`. Assumes nothing.
 use Rattle.step_ends.specs.Steps.Code.{value-laws}
 use borrow.Author.Needs.{needs}

@@ -1,3 +1,4 @@
+-- Written by tools/proof-answers from proofs.map.
 -- `step_ends::show` meets its contract: each need follows from `show-laws`. Assumes nothing.
 use Rattle.step_ends.specs.Steps.Code.{show-laws}
 use borrow.Author.Needs.{needs}

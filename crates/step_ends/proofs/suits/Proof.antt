@@ -1,3 +1,4 @@
+-- Written by tools/proof-answers from proofs.map.
 -- `step_ends::suits` meets its contract: each need follows from `suits-laws`. Assumes nothing.
 use Rattle.step_ends.specs.Steps.Code.{suits-laws}
 use borrow.Author.Needs.{needs}

@@ -1,3 +1,4 @@
+-- Written by tools/proof-answers from proofs.map.
 -- `step_ends::two_of` meets its contract: each need follows from `two-laws`. Assumes nothing.
 use Rattle.step_ends.specs.Steps.Code.{two-laws}
 use borrow.Author.Needs.{needs}

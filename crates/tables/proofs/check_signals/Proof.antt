@@ -1,3 +1,4 @@
+-- Written by tools/proof-answers from proofs.map.
 -- `tables::check_signals` meets its contract: each need follows from `pass-laws`. Assumes nothing.
 use Prim.Native.Nat.{_-_}
 use lib.ListN.{length}

@@ -1,3 +1,4 @@
+-- Written by tools/proof-answers from proofs.map.
 -- `tables::within_limit` meets its contract: each need follows from `test-laws`. Assumes nothing.
 use borrow.Author.Needs.{needs}
 use Rattle.tables.specs.Checks.Loops.{test-laws}

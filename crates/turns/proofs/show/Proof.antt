@@ -1,3 +1,4 @@
+-- Written by tools/proof-answers from proofs.map.
 -- `turns::show` meets its contract: each need follows from `show-laws`. Assumes nothing.
 use Rattle.turns.specs.Turns.Code.{show-laws}
 use borrow.Author.Needs.{needs}

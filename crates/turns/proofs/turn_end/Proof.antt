@@ -1,3 +1,4 @@
+-- Written by tools/proof-answers from proofs.map.
 -- `turns::turn_end` meets its contract: each need follows from `end-laws`. Assumes nothing.
 use Rattle.turns.specs.Turns.Code.{end-laws}
 use borrow.Author.Needs.{needs}

@@ -1,3 +1,4 @@
+-- Written by tools/proof-answers from proofs.map.
 -- `turns::turn_write` meets its contract: each need follows from `write-laws`. Assumes nothing.
 use Rattle.turns.specs.Turns.Code.{write-laws}
 use borrow.Author.Needs.{needs}

@@ -1,3 +1,4 @@
+-- Written by tools/proof-answers from proofs.map.
 -- `values::read_byte` meets its contract: each need follows from `byte-laws`. Assumes nothing.
 use Rattle.values.specs.Value.Laws.{byte-laws}
 use borrow.Author.Needs.{needs}

@@ -1,3 +1,4 @@
+-- Written by tools/proof-answers from proofs.map.
 -- `values::read_real` meets its contract: each need follows from `real-laws`. Assumes nothing.
 use Rattle.values.specs.Value.Laws.{real-laws}
 use borrow.Author.Needs.{needs}

@@ -1,3 +1,4 @@
+-- Written by tools/proof-answers from proofs.map.
 -- `values::read_unsigned` meets its contract: each need follows from `number-laws`. Assumes nothing.
 use Rattle.values.specs.Value.Laws.{number-laws}
 use borrow.Author.Needs.{needs}

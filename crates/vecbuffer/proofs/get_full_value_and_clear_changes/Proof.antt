@@ -1,3 +1,4 @@
+-- Written by tools/proof-answers from proofs.map.
 -- `vecbuffer::get_full_value_and_clear_changes` meets its contract: each need follows from `take-laws`. Assumes nothing.
 use Rattle.vecbuffer.specs.Changes.Laws.{take-laws}
 use borrow.Author.Needs.{needs}

@@ -1,3 +1,4 @@
+-- Written by tools/proof-answers from proofs.map.
 -- `vecbuffer::update_value` meets its contract: each need follows from `update-laws`. Assumes nothing.
 use Rattle.vecbuffer.specs.Changes.Laws.{update-laws}
 use borrow.Author.Needs.{needs}

@@ -1,3 +1,4 @@
+-- Written by tools/proof-answers from proofs.map.
 -- `vecmarks::get_value` meets its contract: each need follows from `field-laws`. Assumes nothing.
 use borrow.Author.Needs.{needs}
 use Rattle.vecmarks.specs.Info.Laws.{field-laws}

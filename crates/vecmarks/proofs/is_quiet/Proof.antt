@@ -1,3 +1,4 @@
+-- Written by tools/proof-answers from proofs.map.
 -- `vecmarks::is_quiet` meets its contract: each need follows from `field-laws`, `quiet-laws`. Assumes nothing.
 use Rattle.vecmarks.specs.Info.Laws.{field-laws, quiet-laws}
 use borrow.Author.Needs.{needs}

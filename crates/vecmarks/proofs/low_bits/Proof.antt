@@ -1,3 +1,4 @@
+-- Written by tools/proof-answers from proofs.map.
 -- `vecmarks::low_bits` meets its contract: each need follows from `low-laws`. Assumes nothing.
 use Rattle.vecmarks.specs.Full.Laws.{low-laws}
 use borrow.Author.Needs.{needs}

@@ -1,3 +1,4 @@
+-- Written by tools/proof-answers from proofs.map.
 -- `vecmarks::write_new` meets its contract: each need follows from `field-laws`, `new-laws`. Assumes nothing.
 use Rattle.vecmarks.specs.Info.Laws.{field-laws, new-laws}
 use borrow.Author.Needs.{needs}

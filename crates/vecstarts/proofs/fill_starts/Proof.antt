@@ -1,3 +1,4 @@
+-- Written by tools/proof-answers from proofs.map.
 -- `vecstarts::fill_starts` meets its contract: each need follows from `fill-laws`. Assumes nothing.
 use Prim.Native.Nat.{_-_}
 use lib.ListN.{length}

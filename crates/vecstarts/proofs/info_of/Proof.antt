@@ -1,3 +1,4 @@
+-- Written by tools/proof-answers from proofs.map.
 -- `vecstarts::info_of` meets its contract: each need follows from `info-laws`. Assumes nothing.
 use Rattle.vecstarts.specs.Numbers.Laws.{info-laws}
 use borrow.Author.Needs.{needs}

@@ -1,3 +1,4 @@
+-- Written by tools/proof-answers from proofs.map.
 -- `answers::kept::accept_kept` meets its contract: each need follows from `one-laws`. Assumes nothing.
 use Rattle.answers.specs.Kept.{one-laws}
 use borrow.Author.Needs.{needs}

@@ -1,3 +1,4 @@
+-- Written by tools/proof-answers from proofs.map.
 -- `answers::kept::end_filled` meets its contract: each need follows from `end-laws`. Assumes nothing.
 use Rattle.answers.specs.Filled.{end-laws}
 use borrow.Author.Needs.{needs}

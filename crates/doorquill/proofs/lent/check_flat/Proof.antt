@@ -1,3 +1,4 @@
+-- Written by tools/proof-answers from proofs.map.
 -- `doorquill::lent::check_flat` meets its contract: each need follows from `check-laws`. Assumes nothing.
 use Rattle.doorquill.specs.Lent.Laws.{check-laws}
 use borrow.Author.Needs.{needs}

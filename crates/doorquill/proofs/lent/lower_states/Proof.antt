@@ -1,3 +1,4 @@
+-- Written by tools/proof-answers from proofs.map.
 -- `doorquill::lent::lower_states` meets its contract: each need follows from `lower-laws`. Assumes nothing.
 use Prim.Native.Nat.{_-_}
 use lib.ListN.{length}

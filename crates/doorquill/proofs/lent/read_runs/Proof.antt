@@ -1,3 +1,4 @@
+-- Written by tools/proof-answers from proofs.map.
 -- `doorquill::lent::read_runs` meets its contract: each need follows from `runs-laws`. Assumes nothing.
 use Rattle.doorquill.specs.Lent.Laws.{runs-laws}
 use borrow.Author.Needs.{needs}

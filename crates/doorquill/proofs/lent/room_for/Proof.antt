@@ -1,3 +1,4 @@
+-- Written by tools/proof-answers from proofs.map.
 -- `doorquill::lent::room_for` meets its contract: each need follows from `room-laws`. Assumes nothing.
 use Rattle.doorquill.specs.Lent.Laws.{room-laws}
 use borrow.Author.Needs.{needs}

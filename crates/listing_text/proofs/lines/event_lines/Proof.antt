@@ -1,3 +1,4 @@
+-- Written by tools/proof-answers from proofs.map.
 -- `listing_text::lines::event_lines` meets its contract: each need follows from `lines-laws`. Assumes nothing.
 use Prim.Native.Nat.{_-_}
 use lib.ListN.{length}

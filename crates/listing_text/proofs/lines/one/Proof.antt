@@ -1,3 +1,4 @@
+-- Written by tools/proof-answers from proofs.map.
 -- `listing_text::lines::one` meets its contract: each need follows from `one-laws`. Assumes nothing.
 use Rattle.listing_text.specs.Lines.Code.{one-laws}
 use borrow.Author.Needs.{needs}

@@ -1,3 +1,4 @@
+-- Written by tools/proof-answers from proofs.map.
 -- `listing_text::lines::put_number` meets its contract: each need follows from `number-laws`. Assumes nothing.
 use Rattle.listing_text.specs.Lines.Code.{number-laws}
 use borrow.Author.Needs.{needs}

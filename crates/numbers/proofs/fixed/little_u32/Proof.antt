@@ -1,3 +1,4 @@
+-- Written by tools/proof-answers from proofs.map.
 -- `numbers::fixed::little_u32` meets its contract: each need follows from `fixed-laws`. Assumes nothing.
 use Rattle.numbers.specs.Fixed.Code.{fixed-laws}
 use borrow.Author.Needs.{needs}

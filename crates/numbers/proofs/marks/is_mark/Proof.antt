@@ -1,3 +1,4 @@
+-- Written by tools/proof-answers from proofs.map.
 -- `numbers::marks::is_mark` meets its contract: each need follows from `mark-laws`. Assumes nothing.
 use Rattle.numbers.specs.Marks.Code.{mark-laws}
 use borrow.Author.Needs.{needs}

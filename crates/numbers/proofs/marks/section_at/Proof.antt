@@ -1,3 +1,4 @@
+-- Written by tools/proof-answers from proofs.map.
 -- `numbers::marks::section_at` meets its contract: each need follows from `section-laws`. Assumes nothing.
 use Rattle.numbers.specs.Marks.Code.{section-laws}
 use borrow.Author.Needs.{needs}
