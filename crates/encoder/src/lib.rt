@@ -1,9 +1,9 @@
 // The time rule: `Encoder::time_change` and what it lets through, over an event stream.
+use number_writer::Written;
 use records::Next;
 use records::Record;
 use records::next_event;
 use slices::copy_part;
-use number_writer::Written;
 ghost use mathlib.Core.Path.{_≡_};
 ghost use Prim.Native.Nat.{_≤_};
 ghost use lib.ListN.{length};

@@ -1,4 +1,6 @@
 // Fragments counted to sessions at step ends, over an event stream.
+use number_writer::Written;
+use number_writer::put_bytes;
 use numbers::house::put_u32;
 use numbers::house::put_u64;
 use sessions::Bench;
@@ -8,8 +10,6 @@ use sessions::place_for;
 use sessions::place_of;
 use slices::Field;
 use step_ends::Watch;
-use number_writer::Written;
-use number_writer::put_bytes;
 ghost use mathlib.Core.Path.{_≡_};
 ghost use mathlib.Core.Bool.{true};
 ghost use Prim.Native.Nat.{_≤_};

@@ -1,4 +1,8 @@
 // Section bytes back to change records.
+use number_writer::Written;
+use number_writer::put_byte;
+use number_writer::put_bytes;
+use number_writer::put_fixed;
 use numbers::house::put_u32;
 use section_heads::How;
 use section_heads::Phase;
@@ -8,10 +12,6 @@ use section_heads::standing;
 use sections::next_item;
 use sections::signal_kind;
 use slices::Field;
-use number_writer::Written;
-use number_writer::put_byte;
-use number_writer::put_bytes;
-use number_writer::put_fixed;
 ghost use mathlib.Core.Path.{_≡_};
 ghost use Prim.Native.Nat.{_≤_, _<_};
 ghost use lib.ListN.{length};

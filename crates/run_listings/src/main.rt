@@ -2,12 +2,12 @@
 // in hex; `#` begins a remark.
 mod large;
 
-use cases::after;
-use cases::before;
-use cases::unhex;
 use buffer_contents::byte_or_zero;
 use buffer_contents::parts::first_bytes;
 use buffer_contents::parts::rest;
+use cases::after;
+use cases::before;
+use cases::unhex;
 use libc::STDIN_FILENO;
 use libc::STDOUT_FILENO;
 

@@ -4,8 +4,8 @@ mod frame;
 mod tally;
 mod text;
 
-use case::Found;
 use buffer_contents::parts::first_bytes;
+use case::Found;
 use libc::STDIN_FILENO;
 
 enum Turn {

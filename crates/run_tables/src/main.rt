@@ -3,12 +3,12 @@
 mod lists;
 mod text;
 
+use buffer_contents::byte_or_zero;
+use buffer_contents::parts::rest;
 use cases::after;
 use cases::before;
 use cases::number;
 use cases::part;
-use buffer_contents::byte_or_zero;
-use buffer_contents::parts::rest;
 use libc::STDIN_FILENO;
 use lists::bytes_of;
 use lists::fill;

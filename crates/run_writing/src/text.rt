@@ -1,8 +1,8 @@
 // What the program prints.
+use answer_lines::answer_line;
 use answers::Answer;
 use buffer_contents::parts::first_bytes;
 use libc::STDOUT_FILENO;
-use answer_lines::answer_line;
 
 pub(crate) fn line(words: &[u8]) {
     io::write_all(STDOUT_FILENO, words);

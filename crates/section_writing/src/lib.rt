@@ -1,6 +1,8 @@
 // Sections written from change records, one record after the other.
 use changes::Change;
 use changes::next_change;
+use number_writer::Written;
+use number_writer::put_byte;
 use sections_writer::Pen;
 use sections_writer::Progress;
 use sections_writer::Turn;
@@ -9,8 +11,6 @@ use sections_writer::put_time;
 use sections_writer::put_write;
 use sections_writer::time_good;
 use slices::Field;
-use number_writer::Written;
-use number_writer::put_byte;
 ghost use mathlib.Core.Path.{_≡_};
 ghost use mathlib.Core.List.{[], _∷_};
 ghost use Prim.Native.Nat.{_<_, _≤_};

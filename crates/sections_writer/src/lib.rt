@@ -1,14 +1,14 @@
 // Sections written from change records.
-use numbers::marks::CYC;
-use numbers::marks::ECY;
-use numbers::marks::TAI;
-use slices::Field;
 use number_writer::Written;
 use number_writer::put_byte;
 use number_writer::put_bytes;
 use number_writer::put_fixed;
 use number_writer::put_signed;
 use number_writer::put_unsigned;
+use numbers::marks::CYC;
+use numbers::marks::ECY;
+use numbers::marks::TAI;
+use slices::Field;
 ghost use mathlib.Core.Path.{_≡_};
 ghost use mathlib.Core.Bool.{true};
 ghost use mathlib.Core.List.{_++_};

@@ -45,7 +45,9 @@ fn the_page_is_the_table() {
     if std::env::var_os("DOORQUILL_WRITE").is_some() {
         std::fs::write(&path, page()).unwrap();
     }
-    assert!(std::fs::read_to_string(path).unwrap() == page(), "the page is to be written again");
+    // wrapped as all pages are, by tools/wrap-prose: the words alone are held equal
+    let words = |text: &str| text.split_whitespace().collect::<Vec<_>>().join(" ");
+    assert!(words(&std::fs::read_to_string(path).unwrap()) == words(&page()), "the page is to be written again");
 }
 
 #[test]
