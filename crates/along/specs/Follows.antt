@@ -11,7 +11,7 @@ use Rattle.rules.specs.Gather.{write}
 use Rattle.vecmarks.specs.declared.VecBufferInfo.{VecBufferInfo}
 use Rattle.vecmarks.specs.Info.{Inside, isQuiet}
 use Rattle.gather.specs.declared.VecInfo.{VecInfo}
-use Rattle.gather.specs.Run.{Scan, say}
+use Rattle.rules.specs.Scan.{Scan, say}
 use Rattle.quiet_changes.specs.Along.{bitMap, Taken}
 use Rattle.along.specs.declared.Reached.{Reached}
 pub mod Code

@@ -1,6 +1,7 @@
 // Writes that follow one another along the bits of a vector that was looked up, and make no event.
 use gather::VecInfo;
 use quiet_changes::take_change;
+use slices::usize_of_byte;
 use states::States;
 use vecmarks::VecBufferInfo;
 use vecmarks::is_quiet;
@@ -11,12 +12,6 @@ ghost use Rattle.along.specs.Follows.{isNear, FollowAsks, Followed, Alon
 pub struct Reached {
     pub left: usize,
     pub at: usize,
-}
-
-fn wide(x: u8) -> usize
-    ensures { λ r. ⌜ r ≡ x ⌝ }
-{
-    x as usize
 }
 
 // Changes to one vector's bits, as long as they are short and make no event.
@@ -66,7 +61,7 @@ fn near(s: &[u8], left: usize, at: usize) -> bool
     if s[at] == 0 {
         return false;
     }
-    wide(s[at]) < left
+    usize_of_byte(s[at]) < left
 }
 
 // Changes to the bits below `bit` of a vector that was just written, as long as they are short and make no event.

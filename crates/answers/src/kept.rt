@@ -2,8 +2,8 @@
 use crate::Answer;
 use crate::clear_past;
 use crate::refused;
-use crate::widen;
 use number_writer::Written;
+use slices::u64_of_usize;
 use tables::within_limit;
 ghost use mathlib.Core.Path.{_≡_};
 ghost use mathlib.Core.Bool.{_&&_};
@@ -31,8 +31,8 @@ fn accept_kept(kept: &mut [u8], read: usize, n: usize, steps: u64) -> Answer
     Answer {
         number: 0,
         place: 0,
-        read: widen(read),
-        events: widen(n),
+        read: u64_of_usize(read),
+        events: u64_of_usize(n),
         values: 0,
         steps,
     }
@@ -45,7 +45,7 @@ pub fn end_filled(out: &mut [u8], w: Written) -> Answer
 {
     match w {
         Written::Done { read, count, steps } => accept_kept(out, read, count, steps),
-        Written::Refused(number, place) => refuse_kept(out, number, widen(place)),
+        Written::Refused(number, place) => refuse_kept(out, number, u64_of_usize(place)),
     }
 }
 

@@ -3,6 +3,7 @@ pub mod kept;
 
 use records::Counts;
 use slices::clear_bytes;
+use slices::u64_of_usize;
 ghost use mathlib.Core.Path.{_≡_};
 ghost use Prim.Native.Nat.{_≤_};
 ghost use lib.ListN.{length, take};
@@ -18,12 +19,6 @@ pub struct Answer {
     pub events: u64,
     pub values: u64,
     pub steps: u64,
-}
-
-pub fn widen(x: usize) -> u64
-    ensures { λ r. ⌜ r ≡ x ⌝ }
-{
-    x as u64
 }
 
 // "A refusal gives a number and a place with all other fields zero".
@@ -54,9 +49,9 @@ pub fn report(read: usize, c: Counts) -> Answer
     Answer {
         number: 0,
         place: 0,
-        read: widen(read),
-        events: widen(c.events),
-        values: widen(c.values),
+        read: u64_of_usize(read),
+        events: u64_of_usize(c.events),
+        values: u64_of_usize(c.values),
         steps: c.steps,
     }
 }

@@ -8,8 +8,8 @@ use lib.ListN.{length}
 use Rattle.tables.specs.Lists.{Lists}
 use Rattle.tables.specs.Checks.{unless, andThen}
 use Rattle.tables.specs.declared.Check.{Check}
+use Rattle.rules.specs.Scan as scan
 use Rattle.checks.specs.Checked.{checksWithoutRoom}
-use Rattle.gather.specs.Run.Events as scan
 use Rattle.section_scan.specs.Sections.{scanSections}
 use Rattle.answers.specs.Outcome.{LeftKept}
 use Rattle.entries.specs.Demands.{Answers, Output}

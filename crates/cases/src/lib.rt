@@ -4,6 +4,7 @@ ghost use Prim.Native.Nat.{_≤_};
 ghost use lib.ListN.{drop};
 ghost use Rattle.cases.specs.Cases.{before, after, part, digit, spelled, Listed, Unhexed};
 use buffer_contents::parts::rest;
+use slices::u64_of_byte;
 
 // The bytes before the first `b`, or all.
 pub fn before(s: &[u8], b: u8) -> &[u8]
@@ -63,12 +64,6 @@ fn digit(c: u8) -> u8
     (c - 87) % 16
 }
 
-fn wide(x: u8) -> u64
-    ensures { λ r. ⌜ r ≡ x ⌝ }
-{
-    x as u64
-}
-
 // The number that decimal digits spell.
 pub fn number(s: &[u8]) -> u64
     ensures { λ r. ⌜ r ≡ spelled 0 (now (s .entry)) ⌝ }
@@ -76,7 +71,7 @@ pub fn number(s: &[u8]) -> u64
     let mut v: u64 = 0;
     let mut i: usize = 0;
     while i < s.len() {
-        v = v % 1152921504606846976 * 10 + wide(digit(s[i]));
+        v = v % 1152921504606846976 * 10 + u64_of_byte(digit(s[i]));
         i += 1;
     }
     v

@@ -10,7 +10,7 @@ use Rattle.rules.specs.Gather.{State}
 use Rattle.records.specs.declared.Put.{Put}
 use Rattle.records.specs.declared.Put.the-variants as put
 use Rattle.records.specs.Out.{Rooms, Out}
-use Rattle.gather.specs.Run.{Scan, done}
+use Rattle.rules.specs.Scan.{Scan, done}
 use Rattle.gather.specs.Memory.{Holds, Mem, Tabled}
 use Rattle.section_heads.specs.declared.Said.{Said}
 use Rattle.section_heads.specs.declared.Said.the-variants.{Nothing, Time, Write, StepEnd, Over, Bad}

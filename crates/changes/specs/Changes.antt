@@ -10,7 +10,7 @@ use Rattle.numbers.specs.Fixed.{big}
 use Rattle.tables.specs.Lists.{Lists, nth, signals}
 use Rattle.values.specs.Value.{onRead, value}
 use Rattle.rules.specs.Gather.{time, write, stepEnd}
-use Rattle.gather.specs.Run.{Scan, say, done, fault}
+use Rattle.rules.specs.Scan.{Scan, say, done, fault}
 use Rattle.changes.specs.declared.Change.{Change}
 use Rattle.changes.specs.declared.Change.the-variants.{Time, Write, StepEnd, End, Bad}
 pub mod Whole

@@ -1,5 +1,6 @@
 // All checks that come before a reading, in their order, and the room that the tables need.
 use range_names::check_names;
+use slices::usize_of_u32;
 use states::States;
 use tables::Check;
 use tables::check_limits;
@@ -7,7 +8,6 @@ use tables::check_lists;
 use tables::check_signals;
 use tables::check_vectors;
 use tables::unless;
-use tables::widen;
 ghost use mathlib.Core.Path.{_≡_};
 ghost use Prim.Native.Nat.{_+_, _-_, _≤_};
 ghost use Rattle.states.specs.Kind.{bytesRequired};
@@ -23,7 +23,7 @@ pub fn width(min: u32, max: u32) -> usize
     requires { ⌜ min ≤ max ⌝ }
     ensures { λ r. ⌜ r ≡ max - min + 1 ⌝ }
 {
-    widen(max - min) + 1
+    usize_of_u32(max - min) + 1
 }
 
 // The bytes of a vector's values and marks.

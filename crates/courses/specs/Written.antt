@@ -8,8 +8,8 @@ use lib.ListN.{length}
 use lib.Dec.{ltb, leb}
 use Rattle.tables.specs.Lists.{Lists}
 use Rattle.rules.specs.Gather.{time, write, stepEnd}
-use Rattle.gather.specs.Run.{Scan, say}
-use Rattle.gather.specs.Run as run
+use Rattle.rules.specs.Scan.{Scan, say}
+use Rattle.rules.specs.Scan as scan
 use Rattle.changes.specs.Changes.{nextChange, scanChanges}
 use Rattle.sections_writer.specs.declared.Pen.{Pen}
 use Rattle.sections_writer.specs.Writer.{Given, goes, ends, stops, given, begin}
@@ -42,12 +42,12 @@ follows u v = leb u v && leb (v - u) (2 ^ 63 - 1)
 unfoldable pub inOrder : (begun : Bool) (u id i : ℕ) → Scan → Scan
 inOrder false u id i (say (time v) p rest) = say (time v) p (inOrder true v 0 p rest)
 inOrder true u id i (say (time v) p rest) =
-    cond (follows u v) (say (time v) p (inOrder true v 0 p rest)) (run.fault 23 i)
+    cond (follows u v) (say (time v) p (inOrder true v 0 p rest)) (scan.fault 23 i)
 inOrder begun u id i (say (write k x q) p rest) =
-    cond (ltb id k) (say (write k x q) p (inOrder begun u k p rest)) (run.fault 22 i)
+    cond (ltb id k) (say (write k x q) p (inOrder begun u k p rest)) (scan.fault 22 i)
 inOrder begun u id i (say stepEnd p rest) = say stepEnd p (inOrder begun u id p rest)
-inOrder begun u id i (run.done j) = run.done j
-inOrder begun u id i (run.fault n p) = run.fault n p
+inOrder begun u id i (scan.done j) = scan.done j
+inOrder begun u id i (scan.fault n p) = scan.fault n p
 
 unfoldable pub orderly : Lists → List ℕ → Scan
 orderly t s = inOrder false 0 0 0 (scanChanges t s)

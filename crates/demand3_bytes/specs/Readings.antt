@@ -15,7 +15,8 @@ use Rattle.rules.specs.Vector.{actsEarly}
 use Rattle.rules.specs.Gather.{Good, Happening, begin, happens, own}
 use Rattle.rules.specs.Gather.Echo.{nothing-lost}
 use Rattle.rules.specs.Demand3 as whole
-use Rattle.gather.specs.Run.{gathers, eventsOf, Scan, acts}
+use Rattle.rules.specs.Scan.{Scan, acts}
+use Rattle.gather.specs.Run.{gathers, eventsOf}
 use Rattle.gather.specs.Run.Rendered.{rendered, valuesOf}
 use Rattle.gather.specs.Run.Events.{made}
 use Rattle.gather.specs.Run.Good.{gathers-good}

@@ -22,9 +22,10 @@ use Rattle.records.specs.Event as events
 use Rattle.records.specs.Event.Laws.{length-time, length-value, length-real}
 use Rattle.records.specs.Out.{Rooms, Out, empty, fits, appended, append, appendAll}
 use Rattle.records.specs.Out.Laws.{length-record}
-use Rattle.gather.specs.Run.{gathers, alone, eventsOf, Scan, say, done, fault, acts, went, fitted, acted, after, run}
+use Rattle.rules.specs.Scan.{Scan, say, done, fault, acts, Ends}
+use Rattle.gather.specs.Run.{gathers, alone, eventsOf, went, fitted, acted, after, run}
 use Rattle.gather.specs.Run.Rendered.{valuesOf}
-use Rattle.gather.specs.Run.Events.{Ends, made}
+use Rattle.gather.specs.Run.Events.{made}
 use Rattle.gather.specs.Run.Events.Laws as running
 use Rattle.demand3_bytes.specs.Trace.{events-append, values-append}
 use Rattle.demand3_bytes.specs.Stored.{Fitting}

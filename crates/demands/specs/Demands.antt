@@ -14,7 +14,8 @@ use Rattle.rules.specs.Vector.{actsEarly}
 use Rattle.rules.specs.Steps.Owned.{historyOf}
 use Rattle.rules.specs.Once.{Single}
 use Rattle.rules.specs.Demand3.{Demand3}
-use Rattle.gather.specs.Run.{gathers, acts}
+use Rattle.rules.specs.Scan.{acts}
+use Rattle.gather.specs.Run.{gathers}
 use Rattle.section_scan.specs.Sections.{scanSections}
 use Rattle.changes.specs.Changes.{scanChanges}
 use Rattle.answers.specs.Outcome.{Left, LeftKept, Lent}

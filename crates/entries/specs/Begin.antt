@@ -21,7 +21,8 @@ use Rattle.tables.specs.declared.Check.the-variants.{Passed, Refused}
 use Rattle.rules.specs.Gather.{begin}
 use Rattle.records.specs.Out.{empty}
 use Rattle.vecstarts.specs.Numbers.{Shapes, filled}
-use Rattle.gather.specs.Run.{Scan, runAll, gathers}
+use Rattle.rules.specs.Scan.{Scan}
+use Rattle.gather.specs.Run.{runAll, gathers}
 use Rattle.section_scan.specs.Sections.{scanSections}
 use Rattle.changes.specs.Changes.{scanChanges}
 use Rattle.gather.specs.Memory.{Mem, memOf, Holds}

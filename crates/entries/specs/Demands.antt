@@ -19,9 +19,10 @@ use Rattle.rules.specs.Steps.Owned.{historyOf}
 use Rattle.rules.specs.Once.{Single, rising-single}
 use Rattle.rules.specs.Demand3.{Demand3, demand3}
 use Rattle.records.specs.Out.{Out, empty, appendAll}
-use Rattle.gather.specs.Run.{gathers, Scan, acts}
+use Rattle.rules.specs.Scan.{Scan, acts, Ends}
+use Rattle.gather.specs.Run.{gathers}
 use Rattle.gather.specs.Run.Rendered.{rendered, valuesOf, stepsOf}
-use Rattle.gather.specs.Run.Events.{Ends, Overflows}
+use Rattle.gather.specs.Run.Events.{Overflows}
 use Rattle.gather.specs.Run.Times.{timesOf, made-steps}
 use Rattle.gather.specs.Run.Good.{gathers-good}
 use Rattle.section_scan.specs.Sections.{scanSections}

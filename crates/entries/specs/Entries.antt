@@ -8,7 +8,8 @@ use Rattle.tables.specs.Lists.{Lists}
 use Rattle.tables.specs.Checks.{checks, withinLimit}
 use Rattle.tables.specs.declared.Check.{Check}
 use Rattle.tables.specs.declared.Check.the-variants.{Passed, Refused}
-use Rattle.gather.specs.Run.{Scan, Went, went, out, runAll}
+use Rattle.rules.specs.Scan.{Scan}
+use Rattle.gather.specs.Run.{Went, went, out, runAll}
 use Rattle.section_scan.specs.Sections.{scanSections}
 use Rattle.changes.specs.Changes.{scanChanges}
 use Rattle.encoder.specs.Rule.{Ruled, timeRule}

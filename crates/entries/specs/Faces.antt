@@ -9,7 +9,8 @@ use denote.Triple.Both.{Both}
 use Rattle.tables.specs.Lists.{Lists, lists}
 use Rattle.tables.specs.Checks.{checks}
 use Rattle.tables.specs.declared.Check.the-variants.{Passed}
-use Rattle.gather.specs.Run.{Scan, runAll}
+use Rattle.rules.specs.Scan.{Scan}
+use Rattle.gather.specs.Run.{runAll}
 use Rattle.gather.specs.Begin.{roomsOf}
 use Rattle.gather.specs.declared.Part.{Part}
 use Rattle.answers.specs.declared.Answer.{Answer}

@@ -6,7 +6,8 @@ use mathlib.Core.Bool.{true, false}
 use mathlib.Core.List.{List, [], _∷_, _++_}
 use lib.ListN.{length, replicate}
 use Rattle.numbers.specs.Fixed.{bigBytes}
-use Rattle.number_writer.specs.Shortest as shortest
+use Rattle.leb128.specs.Shortest as shortest
+use Rattle.states.specs.Letters as letters
 use Rattle.number_writer.specs.Little as littles
 use Rattle.tables.specs.Lists.{Lists}
 use Rattle.checks.specs.Checked as checks
@@ -19,7 +20,7 @@ use Rattle.answers.specs.Filled.{filled}
 use Rattle.entries.specs.Written.{writeSections, readBack}
 
 unfoldable all : Unit {0}
-unfolding opened shortest.fits shortest.rest shortest.groups littles.littleBytes littles.fixedBytes checks.checksWithoutRoom writer.timeBytes writer.timeGood writer.valueBytes writer.writeBytes writer.cycleEnd writer.closing writer.givenTime writer.givenWrite writer.given writer.one writer.writing writer.writeSections back.unmapped back.byteOf back.writeOf back.recordOf back.times back.giving back.readBack filled writeSections readBack
+unfolding opened shortest.fits shortest.rest shortest.groups littles.littleBytes littles.fixedBytes checks.checksWithoutRoom writer.timeBytes writer.timeGood writer.valueBytes writer.writeBytes writer.cycleEnd writer.closing writer.givenTime writer.givenWrite writer.given writer.one writer.writing writer.writeSections letters.unmapped back.byteOf back.writeOf back.recordOf back.times back.giving back.readBack filled writeSections readBack
 all = tt
 
 -- the entries over n bytes, written as one number

@@ -5,7 +5,8 @@ use mathlib.Core.Option.{Option, none, some}
 use Rattle.tables.specs.Lists.{Lists}
 use Rattle.rules.specs.Gather.{Act, State}
 use Rattle.records.specs.Out.{Rooms, Out}
-use Rattle.gather.specs.Run.{Scan, say, Went, went, out, acted, after, run}
+use Rattle.rules.specs.Scan.{Scan, say}
+use Rattle.gather.specs.Run.{Went, went, out, acted, after, run}
 use Rattle.gather.specs.Memory.{Mem, Tabled, HoldsAt, Holds}
 use Rattle.gather.specs.declared.Gathered.{Gathered}
 use Rattle.gather.specs.declared.Part.{Part}

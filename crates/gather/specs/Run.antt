@@ -13,13 +13,13 @@ use Rattle.states.specs.Packed.{packed}
 use Rattle.tables.specs.Lists.{Lists, nth}
 use Rattle.rules.specs.Vector.{Item, began, wrote, shown, over, actsEarly}
 use Rattle.rules.specs.Gather.{Tables, Act, Happening, at, single, of, ends, State, begin, does}
+use Rattle.rules.specs.Scan.{Scan, say, done, fault}
 use Rattle.records.specs.Event.{Event, time, value, real}
 use Rattle.records.specs.Out.{Rooms, Out, empty, appendAll}
 pub mod Laws
 pub mod Rendered
 pub mod Events
 pub mod Times
-pub mod Ordered
 pub mod Good
 
 -- the tables as the gatherer wants them
@@ -50,23 +50,6 @@ eventsOf t (of v i ∷ h) = ofVector t v i ++ eventsOf t h
 eventsOf t (ends ∷ h) = eventsOf t h
 
 -- ---- acts, one after the other
-
--- an act, the place of the next unread byte after it, and the rest; or the end: all was read up to a place, or a refusal
-pub data Scan : Type 0 where
-  say : Act → ℕ → Scan → Scan
-  done : ℕ → Scan
-  fault : ℕ → ℕ → Scan
-
-pub acts : Scan → List Act
-acts (say a p r) = a ∷ acts r
-acts (done i) = []
-acts (fault n p) = []
-
--- what follows where a part of the input was read
-unfoldable pub and-then : Scan → (ℕ → Scan) → Scan
-and-then (say a p r) k = say a p (and-then r k)
-and-then (done i) k = k i
-and-then (fault n p) k = fault n p
 
 -- how far a part of the input was read: up to a place, with the gatherer and the rooms as they then are; or a refusal
 pub data Went : Type 0 where

@@ -27,12 +27,6 @@ pub struct VecInfo {
     pub reference: u32,
 }
 
-pub fn widen(x: u32) -> usize
-    ensures { λ r. ⌜ r ≡ x ⌝ }
-{
-    x as usize
-}
-
 // Looks a vector up.
 pub fn vec_info(
     mins: &[u32],

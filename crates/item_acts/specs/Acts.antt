@@ -8,7 +8,7 @@ use lib.Dec.{eqb}
 use Rattle.tables.specs.Lists.{Lists}
 use Rattle.rules.specs.Gather.{State, stepEnd}
 use Rattle.records.specs.Out.{Rooms, Out}
-use Rattle.gather.specs.Run.{Scan, say, fault}
+use Rattle.rules.specs.Scan.{Scan, say, fault}
 use Rattle.gather.specs.Memory.{Holds, Mem, Tabled}
 use Rattle.section_heads.specs.declared.Stand.{Stand}
 use Rattle.section_heads.specs.declared.Said.{Said}

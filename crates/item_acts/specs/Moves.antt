@@ -11,7 +11,8 @@ use Rattle.records.specs.declared.Counts.{Counts}
 use Rattle.records.specs.declared.Put.{Put}
 use Rattle.records.specs.declared.Put.the-variants as put
 use Rattle.records.specs.Out.Laws.{Appends}
-use Rattle.gather.specs.Run.{Scan, say, fitted, eventsOf, acted, after, run}
+use Rattle.rules.specs.Scan.{Scan, say}
+use Rattle.gather.specs.Run.{fitted, eventsOf, acted, after, run}
 use Rattle.gather.specs.Memory.{Mem, memOf}
 use Rattle.gather.specs.declared.Gathered.{Gathered}
 use Rattle.item_turns.specs.Leads.{Leads, leads-self, leads-then, leads-quits, Quits}

@@ -6,7 +6,8 @@ use mathlib.Core.Bool.{Bool}
 use Rattle.tables.specs.Lists.{Lists}
 use Rattle.rules.specs.Gather.{Act, State}
 use Rattle.records.specs.Out.{Rooms, Out}
-use Rattle.gather.specs.Run.{Scan, say, out, run}
+use Rattle.rules.specs.Scan.{Scan, say}
+use Rattle.gather.specs.Run.{out, run}
 use Rattle.gather.specs.Memory.{Holds, Mem}
 use Rattle.gather.specs.declared.Gathered.{Gathered}
 use Rattle.turns.specs.Goes.{leftOf, Goes, Stops}

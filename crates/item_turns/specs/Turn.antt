@@ -15,7 +15,8 @@ use Rattle.records.specs.Out.Laws.{Appends}
 use Rattle.vecmarks.specs.Info.{infoAt}
 use Rattle.gather.specs.declared.VecInfo.{VecInfo}
 use Rattle.gather.specs.Memory.{Holds, Mem, Tabled}
-use Rattle.gather.specs.Run.{Scan, say, alone}
+use Rattle.rules.specs.Scan.{Scan, say}
+use Rattle.gather.specs.Run.{alone}
 use Rattle.gather.specs.Writes.{vecInfoFrom, Looks}
 use Rattle.section_heads.specs.declared.Phase.the-variants.{Listed}
 use Rattle.section_heads.specs.declared.Said.{Said}

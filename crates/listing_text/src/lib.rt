@@ -7,6 +7,7 @@ use lines::event_lines;
 use lines::pair_line;
 use preamble::Opened;
 use preamble::read_preamble;
+use slices::u64_of_usize;
 ghost use mathlib.Core.Path.{_≡_};
 ghost use Prim.Native.Nat.{min, _≤_};
 ghost use lib.ListN.{drop};
@@ -18,12 +19,6 @@ ghost use Rattle.preamble.specs.Preamble.{preamble};
 ghost use Rattle.preamble.specs.Preamble.Loop.{upTo};
 ghost use Rattle.listing_text.specs.Listing.{told, sectionLines, afterPreamble, listing};
 ghost use Rattle.listing_text.specs.Listing.Code.{Within};
-
-fn wide(x: usize) -> u64
-    ensures { λ r. ⌜ r ≡ x ⌝ }
-{
-    x as u64
-}
 
 fn least(n: u64, most: usize) -> usize
     ensures { λ r. ⌜ (r ≡ min most n) × (r ≤ most) ⌝ }
@@ -162,7 +157,7 @@ fn list_short(input: &[u8], text: &mut [u8]) -> usize
             at,
             text,
         ),
-        Opened::Refused(number, place) => refuse(text, number, wide(place)),
+        Opened::Refused(number, place) => refuse(text, number, u64_of_usize(place)),
     }
 }
 

@@ -6,6 +6,8 @@ use plain_text::put_hex;
 use records::Next;
 use records::Record;
 use records::next_event;
+use slices::u64_of_u32;
+use slices::usize_of_u32;
 use states::States;
 ghost use mathlib.Core.Path.{_≡_};
 ghost use Prim.Native.Nat.{_+_};
@@ -16,18 +18,6 @@ ghost use Rattle.records.specs.Stream.{inValues};
 ghost use Rattle.plain_text.specs.Text.Laws.{Adds};
 ghost use Rattle.listing_text.specs.Lines.{timeLine, hexLine, pairLine, realWord, stateWord, eventLine, eventLines};
 ghost use Rattle.listing_text.specs.Lines.Code.{numbered, Turned};
-
-fn widen(x: u32) -> usize
-    ensures { λ r. ⌜ r ≡ x ⌝ }
-{
-    x as usize
-}
-
-fn wide(x: u32) -> u64
-    ensures { λ r. ⌜ r ≡ x ⌝ }
-{
-    x as u64
-}
 
 // A word, with the space behind it, and a number.
 fn put_number(text: &mut [u8], at: usize, word: &[u8], number: u64) -> usize
@@ -48,7 +38,7 @@ fn time_line(text: &mut [u8], at: usize, time: u64) -> usize
 fn hex_line(text: &mut [u8], at: usize, word: &[u8], reference: u32, bytes: &[u8]) -> usize
     ensures { λ r. ⌜ Adds (now (text .entry)) at (hexLine (now (word .entry)) reference (now (bytes .entry))) (now (text .exit)) r ⌝ }
 {
-    let a = put_number(text, at, word, wide(reference));
+    let a = put_number(text, at, word, u64_of_u32(reference));
     let b = put(text, a, b" ");
     let c = put_hex(text, b, bytes);
     put(text, c, b"\n")
@@ -92,8 +82,8 @@ fn event_line(text: &mut [u8], at: usize, values: &[u8], event: Record) -> usize
             start,
             length,
         } => {
-            let first = widen(start);
-            let end = first + widen(length);
+            let first = usize_of_u32(start);
+            let end = first + usize_of_u32(length);
             value_line(text, at, states, reference, &values[first..end])
         }
         Record::Real { reference, bits } => real_line(text, at, reference, bits),

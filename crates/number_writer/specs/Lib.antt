@@ -1,6 +1,6 @@
--- The definitions that the promises of `written` cite.
+-- The definitions that the promises of `number_writer` cite.
 -- Assumes nothing.
 pub mod Ended
 pub mod Put
-pub mod Shortest
+pub mod Code
 pub mod Little

@@ -8,7 +8,7 @@ ghost use Prim.Native.Nat.{_≤_};
 ghost use lib.ListN.{length};
 ghost use Rattle.slices.specs.Field.{fieldOf};
 ghost use Rattle.slices.specs.Splice.{splice, part};
-ghost use Rattle.number_writer.specs.Shortest.{fits, rest, lebBytes, unsignedBytes, signedBytes};
+ghost use Rattle.leb128.specs.Shortest.{fits, rest, lebBytes, unsignedBytes, signedBytes};
 ghost use Rattle.number_writer.specs.Little.{littleBytes, fixedBytes};
 ghost use Rattle.numbers.specs.Fixed.{bigBytes};
 ghost use Rattle.number_writer.specs.Put.{afterPut};

@@ -24,7 +24,7 @@ use Rattle.values.specs.Value.Laws.{value-nine, value-two}
 use Rattle.vecmarks.specs.declared.VecBufferInfo.{VecBufferInfo}
 use Rattle.vecmarks.specs.Info.{isMarked, withBit}
 use Rattle.gather.specs.Memory.{Tabled}
-use Rattle.gather.specs.Run.{say}
+use Rattle.rules.specs.Scan.{say}
 use Rattle.quiet_changes.specs.declared.Short.{Short}
 use Rattle.quiet_changes.specs.declared.Short.the-variants as short
 pub mod Code

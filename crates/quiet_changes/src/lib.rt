@@ -1,4 +1,5 @@
 // A change of one byte of delta and one of value, to a bit of a vector further on, where it makes no event: it looks no table up.
+use slices::usize_of_byte;
 use states::States;
 use states::std_logic;
 use vecmarks::VecBufferInfo;
@@ -13,12 +14,6 @@ enum Short {
     Other,
 }
 
-fn wide(x: u8) -> usize
-    ensures { λ r. ⌜ r ≡ x ⌝ }
-{
-    x as usize
-}
-
 // Whether a delta has one byte and leads to a bit above 0, of `left` bits that are left.
 fn short_delta(left: usize, d: u8) -> bool
     ensures { λ r. ⌜ r ≡ isShort left d ⌝ }
@@ -29,7 +24,7 @@ fn short_delta(left: usize, d: u8) -> bool
     if 128 <= d {
         return false;
     }
-    wide(d) < left
+    usize_of_byte(d) < left
 }
 
 fn short_value(kind: States, b: u8) -> Short
@@ -82,7 +77,7 @@ pub fn take_change(
                 width: info.width,
                 states: kind,
             };
-            store_down(room, x, left, wide(d), value)
+            store_down(room, x, left, usize_of_byte(d), value)
         }
         Short::Other => 0,
     }

@@ -1,6 +1,6 @@
 // Check 5: each id in a vector's range names that vector.
+use slices::usize_of_u32;
 use tables::Check;
-use tables::widen;
 ghost use mathlib.Core.Path.{_≡_};
 ghost use Prim.Native.Nat.{_+_, _≤_, _<_};
 ghost use lib.ListN.{length, getD};
@@ -43,7 +43,13 @@ fn stranger_in(
     requires { ⌜ Sized (lists (now kinds) (now refs) (now vecs) (now mins) (now maxs) (now states) (now «vec_refs»)) × Ranged (lists (now kinds) (now refs) (now vecs) (now mins) (now maxs) (now states) (now «vec_refs»)) × (v < length (now mins)) × (best ≤ length (now kinds) + 1) ⌝ }
     ensures { λ r. ⌜ Stranger (now (vecs .entry)) (v + 1) (getD (now (mins .entry)) v 0) (getD (now (maxs .entry)) v 0) best r ⌝ }
 {
-    stranger(vecs, v as u32 + 1, widen(mins[v]), widen(maxs[v]), best)
+    stranger(
+        vecs,
+        v as u32 + 1,
+        usize_of_u32(mins[v]),
+        usize_of_u32(maxs[v]),
+        best,
+    )
 }
 
 // Check 5.

@@ -3,24 +3,20 @@
 use Prim.Native.Nat.{ℕ, _+_}
 use mathlib.Core.Bool.{Bool, cond}
 use mathlib.Core.List.{List, [], _∷_, _++_}
-use lib.ListN.{length, getD}
+use lib.ListN.{length}
 use lib.Dec.{leb}
 use Rattle.numbers.specs.Fixed.{bigBytes}
 use Rattle.number_writer.specs.Ended.{Ended, wrote, refused}
-use Rattle.states.specs.Letters.{ieee1164, crateOrder, placeOf}
+use Rattle.states.specs.Letters.{unmapped}
 use Rattle.tables.specs.Lists.{Lists, nth}
 use Rattle.rules.specs.Gather.{Act, time, write, stepEnd}
-use Rattle.gather.specs.Run.{Scan, say, done, fault}
+use Rattle.rules.specs.Scan.{Scan, say, done, fault}
 use Rattle.section_scan.specs.Sections.{scanSections}
 pub mod Laws
 pub mod Turn
 pub mod Loop
 pub mod Kinds
 pub mod Examples
-
--- "The map carries IEEE 1164's order .. to the crate's order": the other way round
-unfoldable pub unmapped : ℕ → ℕ
-unmapped v = placeOf (getD crateOrder v "") ieee1164
 
 -- the byte of a byte write: "bounded and mapped as in sections"
 unfoldable pub byteOf : (kind v : ℕ) → ℕ

@@ -12,6 +12,7 @@ use section_heads::standing;
 use sections::next_item;
 use sections::signal_kind;
 use slices::Field;
+use states::to_ieee1164;
 ghost use mathlib.Core.Path.{_≡_};
 ghost use Prim.Native.Nat.{_≤_, _<_};
 ghost use lib.ListN.{length};
@@ -38,9 +39,6 @@ enum Turn {
     More(Progress),
     Stops(Written),
 }
-
-// The nine-state map the other way round.
-const UNMAP: [u8; 9] = [2, 3, 1, 4, 7, 0, 5, 6, 8];
 
 fn put_id(out: &mut [u8], at: usize, id: usize) -> Field
     ensures { λ r. ⌜ (r ≡ fieldOf 4 (now (out .entry)) at) × (now (out .exit) ≡ afterPut (now (out .entry)) at (bigBytes 4 id)) ⌝ }
@@ -75,7 +73,7 @@ fn byte_of(kind: u8, value: u64) -> u8
     ensures { λ r. ⌜ r ≡ byteOf kind value ⌝ }
 {
     if kind <= 1 {
-        return UNMAP[value as usize];
+        return to_ieee1164(value as u8);
     }
     value as u8
 }

@@ -3,11 +3,11 @@ use answers::Answer;
 use answers::clear_past;
 use answers::refused;
 use answers::report;
-use answers::widen;
 use gather::Part;
 use records::Counts;
 use slices::clear_bytes;
 use slices::clear_numbers;
+use slices::u64_of_usize;
 use vecstarts::fill_starts;
 ghost use mathlib.Core.Path.{_≡_};
 ghost use Prim.Native.Nat.{_≤_};
@@ -97,7 +97,16 @@ pub fn finish(
     match part {
         Part::Went(read, c) => accept(events, values, room, list, n, v, read, c.counts),
         Part::Out(number, place) => {
-            refuse_used(events, values, room, list, n, v, number, widen(place))
+            refuse_used(
+                events,
+                values,
+                room,
+                list,
+                n,
+                v,
+                number,
+                u64_of_usize(place),
+            )
         }
     }
 }

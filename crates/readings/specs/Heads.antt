@@ -17,7 +17,7 @@ use Rattle.numbers.specs.declared.fixed.Positive.the-variants as sign
 use Rattle.numbers.specs.declared.marks.Section.{Section}
 use Rattle.numbers.specs.declared.marks.Section.the-variants as section
 use Rattle.tables.specs.Lists.{Lists}
-use Rattle.gather.specs.Run.{Scan}
+use Rattle.rules.specs.Scan.{Scan}
 use Rattle.section_scan.specs.Sections.{nextTime}
 use Rattle.section_heads.specs.declared.How.{How}
 use Rattle.section_heads.specs.declared.Phase.{Phase}

@@ -13,7 +13,7 @@ use Rattle.records.specs.Out.Laws.{EventsRoom, Appends}
 use Rattle.gather.specs.declared.Gathered.{Gathered}
 use Rattle.gather.specs.declared.Part.{Part}
 use Rattle.gather.specs.declared.Part.the-variants as part
-use Rattle.gather.specs.Run.{done}
+use Rattle.rules.specs.Scan.{done}
 use Rattle.gather.specs.Memory.{Mem, memOf}
 use Rattle.section_heads.specs.declared.Phase.{Phase}
 use Rattle.section_heads.specs.declared.Stand.{Stand}

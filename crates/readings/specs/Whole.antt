@@ -11,7 +11,8 @@ use Rattle.rules.specs.Gather.{time}
 use Rattle.gather.specs.declared.Gathered.{Gathered}
 use Rattle.gather.specs.declared.Part.{Part}
 use Rattle.gather.specs.declared.Part.the-variants as part
-use Rattle.gather.specs.Run.{Scan, say, done, fault, run}
+use Rattle.rules.specs.Scan.{Scan, say, done, fault}
+use Rattle.gather.specs.Run.{run}
 use Rattle.gather.specs.Memory.{Mem, Sized, sized-self}
 use Rattle.gather.specs.Follows.{Asks, Runs}
 use Rattle.section_scan.specs.Sections.{scanSections}

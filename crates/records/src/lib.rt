@@ -3,6 +3,7 @@ use numbers::house::get_u32;
 use numbers::house::get_u64;
 use numbers::house::put_u32;
 use numbers::house::put_u64;
+use slices::usize_of_u32;
 use slices::write_at;
 use states::States;
 ghost use mathlib.Core.Path.{_≡_};
@@ -141,12 +142,6 @@ fn may_stand(begun: bool, event: Record) -> bool
     }
 }
 
-fn widen(x: u32) -> usize
-    ensures { λ r. ⌜ r ≡ x ⌝ }
-{
-    x as usize
-}
-
 // Whether the value that a record points to lies in the value buffer.
 fn in_values(values: usize, event: Record) -> bool
     ensures { λ r. ⌜ r ≡ inValues values event ⌝ }
@@ -158,7 +153,7 @@ fn in_values(values: usize, event: Record) -> bool
             reference: _,
             start,
             length,
-        } => widen(start) + widen(length) <= values,
+        } => usize_of_u32(start) + usize_of_u32(length) <= values,
         Record::Real { .. } => true,
     }
 }

@@ -4,8 +4,7 @@ use Prim.Native.Nat.{ℕ, _+_, _≤_}
 use mathlib.Core.List.{List, [], _∷_, _++_}
 use native.Mathlib.Omega.{arith}
 use Rattle.rules.specs.Gather.{Act}
-use Rattle.gather.specs.Run.{Scan, say, done, fault}
-use Rattle.gather.specs.Run.Events.{Says}
+use Rattle.rules.specs.Scan.{Scan, say, done, fault, Says}
 pub mod Sections
 pub mod Changes
 

@@ -21,10 +21,11 @@ use Rattle.rules.specs.Gather.Laws.{happens-append}
 use Rattle.records.specs.Event.{Event, recordBytes, recordOf, eventValue}
 use Rattle.records.specs.Event as event
 use Rattle.records.specs.Out.{Rooms, empty, fits}
-use Rattle.gather.specs.Run.{gathers, alone, ofVector, eventsOf, Scan}
+use Rattle.rules.specs.Scan.{Scan, Says}
+use Rattle.gather.specs.Run.{gathers, alone, ofVector, eventsOf}
 use Rattle.gather.specs.Run.Rendered.{valuesOf, stepsOf}
 use Rattle.gather.specs.Run.Rendered.Laws.{all-rendered}
-use Rattle.gather.specs.Run.Events.{Says, made, later, Overflows}
+use Rattle.gather.specs.Run.Events.{made, later, Overflows}
 use Rattle.gather.specs.Run.Times.{timesOf, made-steps}
 use Rattle.section_scan.specs.Sections.{scanSections}
 use Rattle.changes.specs.Changes.{scanChanges}

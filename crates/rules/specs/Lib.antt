@@ -9,3 +9,4 @@ pub mod Early
 pub mod Once
 pub mod Swapped
 pub mod Examples
+pub mod Scan

@@ -3,28 +3,18 @@ use crate::text::show;
 use buffer_contents::byte_or_zero;
 use buffer_contents::parts::first_bytes;
 use buffer_contents::parts::rest;
-ghost use Prim.Native.Nat.{_≤_};
-
-fn widen(x: u8) -> usize
-    ensures { λ r. ⌜ r ≤ 255 ⌝ }
-{
-    x as usize
-}
-
-fn wide(x: u8) -> u32
-    ensures { λ r. ⌜ r ≤ 255 ⌝ }
-{
-    x as u32
-}
+use slices::u32_of_byte;
+use slices::usize_of_byte;
 
 pub(crate) fn two(s: &[u8]) -> usize {
-    widen(byte_or_zero(s, 0)) * 256 + widen(byte_or_zero(s, 1))
+    usize_of_byte(byte_or_zero(s, 0)) * 256 + usize_of_byte(byte_or_zero(s, 1))
 }
 
 fn four(s: &[u8]) -> u32 {
-    ((wide(byte_or_zero(s, 0)) * 256 + wide(byte_or_zero(s, 1))) * 256 + wide(byte_or_zero(s, 2)))
+    ((u32_of_byte(byte_or_zero(s, 0)) * 256 + u32_of_byte(byte_or_zero(s, 1))) * 256
+        + u32_of_byte(byte_or_zero(s, 2)))
         * 256
-        + wide(byte_or_zero(s, 3))
+        + u32_of_byte(byte_or_zero(s, 3))
 }
 
 fn shown(
@@ -81,7 +71,7 @@ fn called(label: &[u8], head: &[u8], data: &[u8]) {
 }
 
 pub(crate) fn run(frame: &[u8]) {
-    let n = widen(byte_or_zero(frame, 0));
+    let n = usize_of_byte(byte_or_zero(frame, 0));
     let body = rest(frame, 1 + n);
     called(first_bytes(rest(frame, 1), n), body, rest(body, 16));
 }

@@ -4,6 +4,7 @@ use buffer_contents::parts::first_bytes;
 use buffer_contents::parts::first_numbers;
 use buffer_contents::parts::rest;
 use buffer_contents::parts::rest_numbers;
+use slices::usize_of_byte;
 ghost use Prim.Native.Nat.{_≤_};
 
 pub(crate) const ENTRY: usize = 0;
@@ -54,12 +55,6 @@ pub(crate) const STEPS: usize = 20;
 
 const HEAD: usize = 42;
 
-fn widen(x: u8) -> usize
-    ensures { λ r. ⌜ r ≤ 255 ⌝ }
-{
-    x as usize
-}
-
 // The 2-byte number at a place.
 fn pair(s: &[u8], at: usize) -> usize
     ensures { λ r. ⌜ r ≤ 65535 ⌝ }
@@ -68,7 +63,7 @@ fn pair(s: &[u8], at: usize) -> usize
         return 0;
     }
     if at <= s.len() - 2 {
-        return widen(s[at]) * 256 + widen(s[at + 1]);
+        return usize_of_byte(s[at]) * 256 + usize_of_byte(s[at + 1]);
     }
     0
 }

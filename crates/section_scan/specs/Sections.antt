@@ -15,7 +15,7 @@ use Rattle.values.specs.declared.Read.{Read}
 use Rattle.values.specs.declared.Read.the-variants.{Bad}
 use Rattle.values.specs.Value.{onRead, unsigned, signed, value}
 use Rattle.rules.specs.Gather.{time, write, stepEnd}
-use Rattle.gather.specs.Run.{Scan, say, done, fault, and-then}
+use Rattle.rules.specs.Scan.{Scan, say, done, fault, and-then}
 use Rattle.section_scan.specs.declared.NextId.{NextId}
 use Rattle.section_scan.specs.declared.NextId.the-variants as ids
 use Rattle.section_scan.specs.declared.NextTime.{NextTime}

@@ -16,7 +16,7 @@ use Rattle.values.specs.Value.Laws.{number-value, unsigned-is, byte-found}
 use Rattle.rules.specs.Gather.{write, stepEnd}
 use Rattle.vecmarks.specs.Info.{infoAt}
 use Rattle.gather.specs.Memory.{Tabled}
-use Rattle.gather.specs.Run.{Scan, say, and-then}
+use Rattle.rules.specs.Scan.{Scan, say, and-then}
 use Rattle.section_scan.specs.Sections.{nextId, oneChange, changeList, nextTime, oneStep, steps, sections}
 use Rattle.section_scan.specs.Sections.Deltas.{id-found, id-same}
 use Rattle.section_scan.specs.declared.NextId.the-variants.{Id}

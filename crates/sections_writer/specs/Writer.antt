@@ -7,7 +7,7 @@ use lib.ListN.{length, getD, replicate}
 use lib.Dec.{ltb, leb, eqb}
 use Rattle.numbers.specs.Marks.{cyc, ecy, tai}
 use Rattle.number_writer.specs.Ended.{Ended, wrote, refused}
-use Rattle.number_writer.specs.Shortest.{unsignedBytes, signedBytes}
+use Rattle.leb128.specs.Shortest.{unsignedBytes, signedBytes}
 use Rattle.number_writer.specs.Little.{littleBytes, fixedBytes}
 use Rattle.tables.specs.Lists.{Lists, nth}
 use Rattle.changes.specs.Changes.{nextChange}

@@ -1,6 +1,6 @@
-// Parts of slices: copied, written, zeroed.
+// Parts of slices: copied, written, zeroed; and numbers in a wider type.
 ghost use mathlib.Core.Path.{_≡_};
-ghost use Prim.Native.Nat.{_+_, _≤_};
+ghost use Prim.Native.Nat.{_+_, _<_, _≤_};
 ghost use lib.ListN.{length, replicate};
 ghost use Rattle.slices.specs.Field.{fieldOf};
 ghost use Rattle.slices.specs.Splice.{splice, part};
@@ -67,4 +67,41 @@ pub fn clear_numbers(dst: &mut [u32], at: usize, count: usize)
         dst[at + i] = 0;
         i += 1;
     }
+}
+
+// Numbers as they are, in a wider type.
+pub fn usize_of_byte(x: u8) -> usize
+    ensures { λ r. ⌜ (r ≡ x) × (r ≤ 255) ⌝ }
+{
+    x as usize
+}
+
+pub fn u32_of_byte(x: u8) -> u32
+    ensures { λ r. ⌜ (r ≡ x) × (r ≤ 255) ⌝ }
+{
+    x as u32
+}
+
+pub fn u64_of_byte(x: u8) -> u64
+    ensures { λ r. ⌜ r ≡ x ⌝ }
+{
+    x as u64
+}
+
+pub fn usize_of_u32(x: u32) -> usize
+    ensures { λ r. ⌜ (r ≡ x) × (r < 4294967296) ⌝ }
+{
+    x as usize
+}
+
+pub fn u64_of_u32(x: u32) -> u64
+    ensures { λ r. ⌜ r ≡ x ⌝ }
+{
+    x as u64
+}
+
+pub fn u64_of_usize(x: usize) -> u64
+    ensures { λ r. ⌜ r ≡ x ⌝ }
+{
+    x as u64
 }

@@ -24,3 +24,7 @@ placeOf a (b ∷ l) = cond (eqt a b) 0 (suc (placeOf a l))
 -- "The map carries IEEE 1164's order to the crate's order": the letter of a value in the one, found in the other
 unfoldable pub mapped : ℕ → ℕ
 mapped b = placeOf (getD ieee1164 b "") crateOrder
+
+-- the other way round
+unfoldable pub unmapped : ℕ → ℕ
+unmapped v = placeOf (getD crateOrder v "") ieee1164

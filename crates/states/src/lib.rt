@@ -3,7 +3,7 @@ ghost use mathlib.Core.Path.{_≡_};
 ghost use Prim.Native.Nat.{_+_, _-_, _*_, _≤_, _<_, _/_, _%_, _^_};
 ghost use lib.ListN.{length, getD, set};
 ghost use Rattle.states.specs.Kind.{bits, mask, perByte, bytesRequired, stateOf};
-ghost use Rattle.states.specs.Letters.{mapped};
+ghost use Rattle.states.specs.Letters.{mapped, unmapped};
 ghost use Rattle.states.specs.Field.{fieldGet, fieldSet};
 ghost use Rattle.states.specs.Packed.{fieldAt, setAt, valuePlace};
 
@@ -92,6 +92,16 @@ pub fn std_logic(value: u8) -> u8
     ensures { λ r. ⌜ r ≡ mapped value ⌝ }
 {
     ((0x8_4763_1025u64 >> (value as u32 * 4)) % 16) as u8
+}
+
+// The other way round.
+const IEEE1164_LUT: [u8; 9] = [2, 3, 1, 4, 7, 0, 5, 6, 8];
+
+pub fn to_ieee1164(value: u8) -> u8
+    requires { ⌜ value ≤ 8 ⌝ }
+    ensures { λ r. ⌜ r ≡ unmapped value ⌝ }
+{
+    IEEE1164_LUT[value as usize]
 }
 
 // A field of a byte, by shifts and masks.

@@ -2,6 +2,8 @@
 use records::Next;
 use records::Record;
 use records::next_event;
+use slices::u32_of_byte;
+use slices::usize_of_u32;
 use states::States;
 ghost use mathlib.Core.Path.{_≡_};
 ghost use mathlib.Core.Bool.{true};
@@ -91,18 +93,6 @@ fn suits(line: Line, states: States, length: u32) -> bool
     }
 }
 
-fn widen(x: u32) -> usize
-    ensures { λ r. ⌜ r ≡ x ⌝ }
-{
-    x as usize
-}
-
-fn wide(x: u8) -> u32
-    ensures { λ r. ⌜ (r ≡ x) × (r ≤ 255) ⌝ }
-{
-    x as u32
-}
-
 // The number of up to four value bytes, the highest first.
 fn value_of(values: &[u8], start: usize, count: usize) -> u32
     requires { ⌜ Few (now values) start count ⌝ }
@@ -111,7 +101,7 @@ fn value_of(values: &[u8], start: usize, count: usize) -> u32
     let mut value: u32 = 0;
     let mut i: usize = 0;
     while i < count {
-        value = value * 256 + wide(values[start + i]);
+        value = value * 256 + u32_of_byte(values[start + i]);
         i += 1;
     }
     value
@@ -126,7 +116,7 @@ fn show(values: &[u8], watch: Watch, line: Line, start: u32, count: u32) -> Watc
         Line::Session => Watch {
             begun: watch.begun,
             time: watch.time,
-            session: value_of(values, widen(start), widen(count)),
+            session: value_of(values, usize_of_u32(start), usize_of_u32(count)),
             strobe: watch.strobe,
             close: watch.close,
         },
@@ -134,7 +124,7 @@ fn show(values: &[u8], watch: Watch, line: Line, start: u32, count: u32) -> Watc
             begun: watch.begun,
             time: watch.time,
             session: watch.session,
-            strobe: value_of(values, widen(start), widen(count)),
+            strobe: value_of(values, usize_of_u32(start), usize_of_u32(count)),
             close: watch.close,
         },
         Line::Close => Watch {
@@ -142,7 +132,7 @@ fn show(values: &[u8], watch: Watch, line: Line, start: u32, count: u32) -> Watc
             time: watch.time,
             session: watch.session,
             strobe: watch.strobe,
-            close: value_of(values, widen(start), widen(count)),
+            close: value_of(values, usize_of_u32(start), usize_of_u32(count)),
         },
         Line::Other => watch,
     }

@@ -1,4 +1,5 @@
 // The signal and vector tables, and the checks that come before any reading.
+use slices::usize_of_u32;
 ghost use mathlib.Core.Path.{_≡_};
 ghost use Prim.Native.Nat.{_+_, _<_};
 ghost use lib.ListN.{length};
@@ -10,12 +11,6 @@ pub enum Check {
     Passed,
     // The number of the refusal, and its place.
     Refused(u64, u64),
-}
-
-pub fn widen(x: u32) -> usize
-    ensures { λ r. ⌜ r ≡ x ⌝ }
-{
-    x as usize
 }
 
 // A check whose place is 0.
@@ -86,8 +81,8 @@ fn good_vector(
     requires { ⌜ Sized (lists (now kinds) (now refs) (now vecs) (now mins) (now maxs) (now states) (now «vec_refs»)) × (v < length (now mins)) ⌝ }
     ensures { λ r. ⌜ r ≡ goodVector (lists (now (kinds .entry)) (now (refs .entry)) (now (vecs .entry)) (now (mins .entry)) (now (maxs .entry)) (now (states .entry)) (now («vec_refs» .entry))) (v + 1) ⌝ }
 {
-    let min = widen(mins[v]);
-    let max = widen(maxs[v]);
+    let min = usize_of_u32(mins[v]);
+    let max = usize_of_u32(maxs[v]);
     (1 <= min) & (min <= max) & (max <= kinds.len()) & (states[v] <= 1) & (vec_refs[v] != 0)
 }
 
@@ -137,8 +132,8 @@ fn suits(
         return false;
     }
     let v = number - 1;
-    (widen(mins[v]) <= i + 1)
-        & (i + 1 <= widen(maxs[v]))
+    (usize_of_u32(mins[v]) <= i + 1)
+        & (i + 1 <= usize_of_u32(maxs[v]))
         & (states[v] == state)
         & (vec_refs[v] == refs[i])
 }
@@ -159,7 +154,7 @@ fn good_signal(
 {
     let kind = kinds[i];
     let good = (kind <= 6) & (refs[i] != 0);
-    let number = widen(vecs[i]);
+    let number = usize_of_u32(vecs[i]);
     if kind == 1 {
         return good
             & suits(

@@ -9,7 +9,8 @@ use Rattle.tables.specs.Lists.{Lists}
 use Rattle.rules.specs.Gather.{Act, State}
 use Rattle.records.specs.Event.{Event}
 use Rattle.records.specs.Out.{Rooms, Out, appendAll}
-use Rattle.gather.specs.Run.{Scan, say, out, fitted, run}
+use Rattle.rules.specs.Scan.{Scan, say}
+use Rattle.gather.specs.Run.{out, fitted, run}
 use Rattle.gather.specs.Memory.{Holds, Mem}
 use Rattle.gather.specs.Makes.{eventOf}
 use Rattle.gather.specs.declared.Gathered.{Gathered}

@@ -11,7 +11,7 @@ use Rattle.tables.specs.Lists.{Lists, nth}
 use Rattle.values.specs.declared.Read.{Read}
 use Rattle.values.specs.declared.Read.the-variants as read
 use Rattle.values.specs.Value.{onRead, value}
-use Rattle.gather.specs.Run.{Scan}
+use Rattle.rules.specs.Scan.{Scan}
 use Rattle.gather.specs.Memory.{Tabled}
 use Rattle.section_heads.specs.declared.How.{How}
 use Rattle.section_heads.specs.declared.Phase.the-variants.{Listed}

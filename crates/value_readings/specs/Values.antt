@@ -10,7 +10,7 @@ use Rattle.rules.specs.Gather.{State}
 use Rattle.records.specs.Out.{Rooms, Out}
 use Rattle.gather.specs.declared.Part.{Part}
 use Rattle.gather.specs.declared.Part.the-variants as part
-use Rattle.gather.specs.Run.{Scan}
+use Rattle.rules.specs.Scan.{Scan}
 use Rattle.gather.specs.Memory.{Holds, Mem, Tabled}
 use Rattle.gather.specs.Follows.{Asks}
 use Rattle.section_heads.specs.declared.How.{How}

@@ -3,6 +3,7 @@ use leb128::Leb;
 use numbers::fixed::read_f64_le;
 use slices::Field;
 use slices::field_at;
+use slices::u64_of_byte;
 use states::std_logic;
 ghost use mathlib.Core.Path.{_≡_};
 ghost use Prim.Native.Nat.{_≤_};
@@ -13,12 +14,6 @@ ghost use Rattle.values.specs.Value.{number, unsigned, signed, byteUpTo,
 pub enum Read {
     Value(u64, usize),
     Bad(u64, usize),
-}
-
-fn wide(x: u8) -> u64
-    ensures { λ r. ⌜ r ≡ x ⌝ }
-{
-    x as u64
 }
 
 // A number that was looked for at `at`.
@@ -54,7 +49,7 @@ pub fn read_byte(s: &[u8], at: usize, most: u8) -> Read
     }
     let b = s[at];
     if b <= most {
-        Read::Value(wide(b), at + 1)
+        Read::Value(u64_of_byte(b), at + 1)
     } else {
         Read::Bad(14, at)
     }
@@ -69,7 +64,7 @@ pub fn read_nine_state(s: &[u8], at: usize) -> Read
     }
     let b = s[at];
     if b <= 8 {
-        Read::Value(wide(std_logic(b)), at + 1)
+        Read::Value(u64_of_byte(std_logic(b)), at + 1)
     } else {
         Read::Bad(14, at)
     }

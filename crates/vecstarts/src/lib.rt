@@ -1,4 +1,5 @@
 // The numbers beside the working room: where the bytes of each vector start, and which vectors are listed.
+use slices::usize_of_u32;
 use states::States;
 use vecmarks::VecBufferInfo;
 use vecmarks::mask_bytes;
@@ -10,12 +11,6 @@ ghost use Rattle.states.specs.Kind.{bytesRequired};
 ghost use Rattle.vecmarks.specs.Info.{infoAt};
 ghost use Rattle.vecstarts.specs.Numbers.{layoutFrom, Shapes, Started, startIn, listedIn, listing, filled};
 
-fn widen(x: u32) -> usize
-    ensures { λ r. ⌜ (r ≡ x) × (r < 4294967296) ⌝ }
-{
-    x as usize
-}
-
 // Where the bytes of vector `v` start; at the number of vectors, where the flags start.
 fn start_of(list: &[u32], v: usize) -> usize
     requires { ⌜ v ≤ length (now list) ⌝ }
@@ -24,7 +19,7 @@ fn start_of(list: &[u32], v: usize) -> usize
     if v == 0 {
         0
     } else {
-        widen(list[v - 1] % 65536)
+        usize_of_u32(list[v - 1] % 65536)
     }
 }
 
@@ -33,7 +28,7 @@ pub fn listed(list: &[u32], i: usize) -> usize
     requires { ⌜ i < length (now list) ⌝ }
     ensures { λ r. ⌜ r ≡ listedIn (now (list .entry)) i ⌝ }
 {
-    widen(list[i] / 65536)
+    usize_of_u32(list[i] / 65536)
 }
 
 pub fn list_vector(list: &mut [u32], i: usize, v: usize)
@@ -47,7 +42,7 @@ fn width_of(mins: &[u32], maxs: &[u32], v: usize) -> usize
     requires { ⌜ (v < length (now mins)) × (v < length (now maxs)) × (getD (now mins) v 0 ≤ getD (now maxs) v 0) ⌝ }
     ensures { λ r. ⌜ (r ≡ getD (now (maxs .entry)) v 0 - getD (now (mins .entry)) v 0 + 1) × (r ≤ 4294967296) ⌝ }
 {
-    widen(maxs[v] - mins[v]) + 1
+    usize_of_u32(maxs[v] - mins[v]) + 1
 }
 
 // The value bytes and the mask bytes of a vector.

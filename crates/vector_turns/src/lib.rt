@@ -1,8 +1,8 @@
 // What an item of the input does to one vector: which vector it is for, and its turn; and when a step's end has come to each.
 use gather::Gathered;
 use gather::VecInfo;
-use gather::widen;
 use section_heads::Said;
+use slices::usize_of_u32;
 use turns::Turned;
 use turns::turn_end;
 use turns::turn_write;
@@ -20,7 +20,7 @@ fn vector_number(vecs: &[u32], id: usize) -> usize
     requires { ⌜ IdIn (now vecs) id ⌝ }
     ensures { λ r. ⌜ r ≡ nth (now (vecs .entry)) id ⌝ }
 {
-    widen(vecs[id - 1])
+    usize_of_u32(vecs[id - 1])
 }
 
 // "Bit number is max id minus id."
@@ -28,7 +28,7 @@ pub fn bit_number(maxs: &[u32], v: usize, id: usize) -> usize
     requires { ⌜ BitIn (now maxs) v id ⌝ }
     ensures { λ r. ⌜ r ≡ getD (now (maxs .entry)) v 0 - id ⌝ }
 {
-    widen(maxs[v]) - id
+    usize_of_u32(maxs[v]) - id
 }
 
 // Whether an item concerns a vector: a write to it, or the step's end.

@@ -14,13 +14,12 @@ use Rattle.leb128.specs.declared.Leb.{Leb}
 use Rattle.leb128.specs.declared.Leb.the-variants.{Value}
 use Rattle.number_writer.specs.Ended.{Ended, wrote}
 use Rattle.number_writer.specs.Ended as ended
-use Rattle.number_writer.specs.Shortest.{unsignedBytes, signedBytes}
-use Rattle.number_writer.specs.Shortest.Laws.{unsigned-back, signed-back, unsigned-least, signed-least}
+use Rattle.leb128.specs.Shortest.{unsignedBytes, signedBytes}
+use Rattle.leb128.specs.Shortest.Laws.{unsigned-back, signed-back, unsigned-least, signed-least}
 use Rattle.tables.specs.Lists.{Lists}
 use Rattle.tables.specs.declared.Check.{Check}
 use Rattle.tables.specs.declared.Check.the-variants.{Passed, Refused}
-use Rattle.gather.specs.Run.{Scan}
-use Rattle.gather.specs.Run.Events.{Ends, Faults}
+use Rattle.rules.specs.Scan.{Scan, Ends, Faults}
 use Rattle.section_scan.specs.Sections.{scanSections}
 use Rattle.changes.specs.Changes.{scanChanges}
 use Rattle.checks.specs.Checked.{checksWithoutRoom, without-number, without-limits, without-alike}

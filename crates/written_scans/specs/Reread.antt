@@ -1,7 +1,8 @@
 -- The acts of an input, its places aside.
 -- Assumes nothing.
 use Rattle.rules.specs.Gather.{Act, time, write, stepEnd}
-use Rattle.gather.specs.Run.{Scan, say, done, fault, Went, went, out}
+use Rattle.rules.specs.Scan.{Scan, say, done, fault}
+use Rattle.gather.specs.Run.{Went, went, out}
 pub mod Known
 pub mod Stands
 pub mod Scanned

@@ -14,11 +14,11 @@ shared-slice-read-if2 c = search (near-laws, needs)
 returns-2 : tie.Need-returns-2
 returns-2 c = search (near-laws, needs)
 
-shared-slice-read-wide : tie.Need-shared-slice-read-wide
-shared-slice-read-wide c = search (near-laws, needs)
+shared-slice-read-usize-of-byte : tie.Need-shared-slice-read-usize-of-byte
+shared-slice-read-usize-of-byte c = search (near-laws, needs)
 
-wide-requires : tie.Need-wide-requires
-wide-requires c κs = search (near-laws, needs)
+usize-of-byte-requires : tie.Need-usize-of-byte-requires
+usize-of-byte-requires c κs = search (near-laws, needs)
 
 returns-3 : tie.Need-returns-3
 returns-3 c = search (near-laws, needs)
@@ -30,6 +30,6 @@ near-spec =
     returns
     shared-slice-read-if2
     returns-2
-    shared-slice-read-wide
-    wide-requires
+    shared-slice-read-usize-of-byte
+    usize-of-byte-requires
     returns-3)

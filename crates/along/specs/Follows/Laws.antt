@@ -23,7 +23,8 @@ use Rattle.vecbuffer.specs.Stands.Laws.{asks-vector, asks-flags, asks-known}
 use Rattle.gather.specs.declared.Gathered.{Gathered}
 use Rattle.gather.specs.declared.VecInfo.{VecInfo}
 use Rattle.gather.specs.Follows.{Done, Acts}
-use Rattle.gather.specs.Run.{gathers, Scan, say, fitted, acted, after, run}
+use Rattle.rules.specs.Scan.{Scan, say}
+use Rattle.gather.specs.Run.{gathers, fitted, acted, after, run}
 use Rattle.gather.specs.Memory.{memOf, Tabled, HoldsAt}
 use Rattle.gather.specs.Makes.{Seen}
 use Rattle.gather.specs.Quiet.{acts-quietly, quietly-on}

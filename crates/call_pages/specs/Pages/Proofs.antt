@@ -13,7 +13,7 @@ use Rattle.tables.specs.declared.Check.{Check}
 use Rattle.tables.specs.declared.Check.the-variants.{Passed, Refused}
 use Rattle.checks.specs.Checked.{checksWithoutRoom, without-number}
 use Rattle.number_writer.specs.Ended as ended
-use Rattle.gather.specs.Run.Events as scan
+use Rattle.rules.specs.Scan as scan
 use Rattle.section_scan.specs.Sections.{scanSections}
 use Rattle.section_scan.specs.Sections.Stepped.{sections-number}
 use Rattle.changes.specs.Changes.{scanChanges}

@@ -25,8 +25,8 @@ shared-slice-read-digit c = search (number-laws, needs)
 digit-requires : tie.Need-digit-requires Inv-loop μ-loop
 digit-requires c κs = search (number-laws, needs)
 
-wide-requires : tie.Need-wide-requires Inv-loop μ-loop
-wide-requires c κs = search (number-laws, needs)
+u64-of-byte-requires : tie.Need-u64-of-byte-requires Inv-loop μ-loop
+u64-of-byte-requires c κs = search (number-laws, needs)
 
 add-v : tie.Need-add-v Inv-loop μ-loop
 add-v c = search (number-laws, needs)
@@ -53,7 +53,7 @@ number-spec =
     mul-v
     shared-slice-read-digit
     digit-requires
-    wide-requires
+    u64-of-byte-requires
     add-v
     add-i
     loop-less

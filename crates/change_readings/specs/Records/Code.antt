@@ -10,7 +10,8 @@ use Rattle.records.specs.declared.Counts.{Counts}
 use Rattle.records.specs.declared.Put.{Put}
 use Rattle.records.specs.declared.Put.the-variants as put
 use Rattle.gather.specs.declared.Part.the-variants as part
-use Rattle.gather.specs.Run.{Scan, run}
+use Rattle.rules.specs.Scan.{Scan}
+use Rattle.gather.specs.Run.{run}
 use Rattle.gather.specs.Memory.{Mem, Sized, sized-self}
 use Rattle.gather.specs.Follows.{Asks, Runs}
 use Rattle.gather.specs.declared.Gathered.{Gathered}

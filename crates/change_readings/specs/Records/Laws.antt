@@ -12,7 +12,7 @@ use Rattle.records.specs.Event as event
 use Rattle.records.specs.declared.Put.{Put}
 use Rattle.records.specs.declared.Put.the-variants as put
 use Rattle.records.specs.Out.Laws.{EventsRoom, Appends}
-use Rattle.gather.specs.Run.{Scan, done}
+use Rattle.rules.specs.Scan.{Scan, done}
 use Rattle.gather.specs.Memory.{Mem, memOf}
 use Rattle.section_heads.specs.declared.Phase.{Phase}
 use Rattle.section_heads.specs.declared.Phase.the-variants.{Mark, Entries, Each, Closing, Listed, Between}

@@ -9,7 +9,7 @@ use lib.ListN.{length}
 use Rattle.tables.specs.Lists.{Lists, nth, signals}
 use Rattle.values.specs.Value.{Suits}
 use Rattle.rules.specs.Gather.{time, write, stepEnd}
-use Rattle.gather.specs.Run.{Scan, say, done, fault}
+use Rattle.rules.specs.Scan.{Scan, say, done, fault}
 use Rattle.section_heads.specs.declared.Phase.the-variants.{Mark}
 use Rattle.section_heads.specs.declared.Stand.{Stand}
 use Rattle.section_heads.specs.declared.Said.{Said}

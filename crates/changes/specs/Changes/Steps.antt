@@ -18,9 +18,8 @@ use Rattle.values.specs.declared.Read.the-variants as read
 use Rattle.values.specs.Value.{onRead}
 use Rattle.values.specs.Value.Reads.{Reads, byte-value-reads}
 use Rattle.rules.specs.Steps.{Stepped}
-use Rattle.gather.specs.Run.{Scan, done, acts}
-use Rattle.gather.specs.Run.Events.{Ends, Faults}
-use Rattle.gather.specs.Run.Ordered.{Ordered, ordered-steps, ordered-end, ordered-fault}
+use Rattle.rules.specs.Scan.{Scan, done, acts, Ends, Faults}
+use Rattle.rules.specs.Scan.Ordered.{Ordered, ordered-steps, ordered-end, ordered-fault}
 use Rattle.changes.specs.declared.Change.{Change}
 use Rattle.changes.specs.declared.Change.the-variants.{Time, Write, StepEnd, End, Bad}
 use Rattle.changes.specs.Changes.{recordLength, written, writeRecord, inOrder, changeRecord, nextChange, oneRecord, changes, scanChanges}

@@ -8,9 +8,8 @@ use lib.ListN.{length}
 use lib.Dec.{leb}
 use Rattle.number_writer.specs.Ended.{refused}
 use Rattle.tables.specs.Lists.{Lists}
-use Rattle.gather.specs.Run.{Scan, say}
-use Rattle.gather.specs.Run as run
-use Rattle.gather.specs.Run.Events as scan
+use Rattle.rules.specs.Scan.{Scan, say}
+use Rattle.rules.specs.Scan as scan
 use Rattle.section_scan.specs.Sections.{scanSections}
 use Rattle.read_back.specs.ReadBack.{recordOf, times, giving, readBack}
 use Rattle.courses.specs.Course.{Ends, Faults, Told, fill}
@@ -22,8 +21,8 @@ module _ (t : Lists) (room : ℕ) where
   giving-fills (say a p rest) out n =
       ap (λ e. cond (leb (length out + length (recordOf t a)) room) e (refused 16 p))
       (giving-fills rest (out ++ recordOf t a) (n + times a))
-  giving-fills (run.done i) out n = refl
-  giving-fills (run.fault m p) out n = refl
+  giving-fills (scan.done i) out n = refl
+  giving-fills (scan.fault m p) out n = refl
 
   pub back-fills : (flag : Bool) (s : List ℕ) → readBack t flag s room ≡ fill room (givenBack t flag s) []
   unfolding readBack givenBack
@@ -36,7 +35,7 @@ unfolding scan.Ends scan.Faults Ends Faults givenFrom
 given-told t (say a p rest) n = let r =
     given-told t rest (n + times a) in
     record { ends = r .ends; ended = r .ended; faults = r .faults; faulted = r .faulted }
-given-told t (run.done j) n =
+given-told t (scan.done j) n =
     record {
       ends = λ i m e. e .0;
       ended = λ i e. (n, (e, refl));
@@ -44,5 +43,5 @@ given-told t (run.done j) n =
       faulted =
           λ m p e. absurd e;
     }
-given-told t (run.fault k q) n =
+given-told t (scan.fault k q) n =
     record { ends = λ i m e. absurd e; ended = λ i e. absurd e; faults = λ m p e. e; faulted = λ m p e. e }

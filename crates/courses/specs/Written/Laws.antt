@@ -11,9 +11,8 @@ use lib.Dec.{ltb, leb, eqb}
 use Rattle.number_writer.specs.Ended.{Ended, wrote, refused}
 use Rattle.tables.specs.Lists.{Lists, nth}
 use Rattle.rules.specs.Gather.{Act, time, write, stepEnd}
-use Rattle.gather.specs.Run.{Scan, say}
-use Rattle.gather.specs.Run as run
-use Rattle.gather.specs.Run.Events as scan
+use Rattle.rules.specs.Scan.{Scan, say}
+use Rattle.rules.specs.Scan as scan
 use Rattle.changes.specs.declared.Change.{Change}
 use Rattle.changes.specs.declared.Change.the-variants as change
 use Rattle.changes.specs.Changes.{nextChange, oneRecord, changes, scanChanges}
@@ -61,7 +60,7 @@ module _ (t : Lists) (flag : Bool) (s : List ℕ) where
   unfolding Ends Faults scan.Ends scan.Faults
   like-say bs next c a p sc l = record { ends = l .ends; ended = l .ended; faults = l .faults; faulted = l .faulted }
 
-  like-done : (i n : ℕ) → Alike (done i n) (run.done i)
+  like-done : (i n : ℕ) → Alike (done i n) (scan.done i)
   unfolding Ends Faults scan.Ends scan.Faults
   like-done i n = record {
     ends = λ j m e. e .0;
@@ -71,7 +70,7 @@ module _ (t : Lists) (flag : Bool) (s : List ℕ) where
         λ m p e. absurd e;
   }
 
-  like-last : (bs : List ℕ) (i n : ℕ) → Alike (adds bs i (done i n)) (run.done i)
+  like-last : (bs : List ℕ) (i n : ℕ) → Alike (adds bs i (done i n)) (scan.done i)
   unfolding Ends Faults scan.Ends scan.Faults
   like-last bs i n = record {
     ends = λ j m e. e .0;
@@ -81,7 +80,7 @@ module _ (t : Lists) (flag : Bool) (s : List ℕ) where
     faulted = λ m p e. absurd e;
   }
 
-  like-fault : (n p : ℕ) → Alike (fault n p) (run.fault n p)
+  like-fault : (n p : ℕ) → Alike (fault n p) (scan.fault n p)
   unfolding Ends Faults scan.Ends scan.Faults
   like-fault n p = record {
     ends = λ i m e. absurd e;
@@ -104,7 +103,7 @@ module _ (t : Lists) (flag : Bool) (s : List ℕ) where
   -- a time in order, whether there was one before or not
   order-time : (b : Bool) (u id i v p : ℕ) (rest : Scan)
       → inOrder b u id i (say (time v) p rest) ≡ cond (cond b (follows u v) true)
-      (say (time v) p (inOrder true v 0 p rest)) (run.fault 23 i)
+      (say (time v) p (inOrder true v 0 p rest)) (scan.fault 23 i)
   unfolding inOrder
   order-time true u id i v p rest = refl
   order-time false u id i v p rest = refl
@@ -122,7 +121,7 @@ module _ (t : Lists) (flag : Bool) (s : List ℕ) where
 
   module _ (p : Pen) (i : ℕ) (more : Pen → ℕ → Course) (more' : Bool → ℕ → Scan) (rec : Later more more') where
     by-test : (g : Bool) (bs : List ℕ) (q : Pen) (j m : ℕ) (a : Act) (sc : Scan) → Alike (more q j) sc
-        → Alike (onGiven t flag s p (cond g (goes bs q j) (stops m i)) more) (cond g (say a j sc) (run.fault m i))
+        → Alike (onGiven t flag s p (cond g (goes bs q j) (stops m i)) more) (cond g (say a j sc) (scan.fault m i))
     unfolding onGiven
     by-test true bs q j m a sc h = like-say bs j (more q j) a j sc h
     by-test false bs q j m a sc h = like-fault m i
@@ -145,14 +144,14 @@ module _ (t : Lists) (flag : Bool) (s : List ℕ) where
     turn (change.End j) = like-last (closing p) j (p .steps)
     turn (change.Bad n q) = like-fault n q
 
-  last-like : Later (λ q j. done j (q .steps)) (λ b j. run.done j)
+  last-like : Later (λ q j. done j (q .steps)) (λ b j. scan.done j)
   unfolding inOrder
   last-like q j = like-done j (q .steps)
 
   all : (fuel : ℕ) (p : Pen) (i : ℕ)
       → Alike (writtenFrom t flag s fuel p i) (scanned p i (changes t s fuel (p .inside) i))
   unfolding writtenFrom changes
-  all zero p i = turn p i (λ q j. done j (q .steps)) (λ b j. run.done j) last-like (nextChange t s (p .inside) i)
+  all zero p i = turn p i (λ q j. done j (q .steps)) (λ b j. scan.done j) last-like (nextChange t s (p .inside) i)
   all (suc fuel) p i = turn p i (λ q j. writtenFrom t flag s fuel q j) (λ b j. changes t s fuel b j)
       (λ q j. all fuel q j) (nextChange t s (p .inside) i)
 

@@ -13,7 +13,8 @@ use Rattle.tables.specs.declared.Check.{Check}
 use Rattle.tables.specs.declared.Check.the-variants.{Passed, Refused}
 use Rattle.rules.specs.Vector.{actsEarly}
 use Rattle.rules.specs.Demand3.{Demand3}
-use Rattle.gather.specs.Run.{gathers, acts}
+use Rattle.rules.specs.Scan.{acts}
+use Rattle.gather.specs.Run.{gathers}
 use Rattle.section_scan.specs.Sections.{scanSections}
 use Rattle.doorquill.specs.declared.Vector.{Vector}
 use Rattle.answers.specs.Outcome.{Outcome, refused, answer, eventBytes, valueBytes, padded, Lent, leaves}

@@ -15,9 +15,10 @@ use Rattle.tables.specs.declared.Check.the-variants.{Passed, Refused}
 use Rattle.rules.specs.Gather.{State, begin}
 use Rattle.records.specs.Event.{Event}
 use Rattle.records.specs.Out.{Rooms, Out, empty, appendAll}
-use Rattle.gather.specs.Run.{gathers, Scan, acts, Went, went, out, runAll}
+use Rattle.rules.specs.Scan.{Scan, acts, Ends}
+use Rattle.gather.specs.Run.{gathers, Went, went, out, runAll}
 use Rattle.gather.specs.Run.Rendered.{rendered, valuesOf, stepsOf, Within}
-use Rattle.gather.specs.Run.Events.{Ends, made, Overflows, Refusal}
+use Rattle.gather.specs.Run.Events.{made, Overflows, Refusal}
 use Rattle.gather.specs.Run.Events.Laws as running
 use Rattle.answers.specs.Outcome.{Outcome, accepted, refused, answer, eventBytes, valueBytes, Lent}
 use Rattle.entries.specs.Entries.{checked, outcome, reads}

@@ -8,8 +8,7 @@ use native.Mathlib.Omega.{arith}
 use lib.ListN.{length}
 use Rattle.tables.specs.Lists.{Lists}
 use Rattle.rules.specs.Steps.{Stepped}
-use Rattle.gather.specs.Run.{Scan, acts}
-use Rattle.gather.specs.Run.Events.{Ends, Faults}
+use Rattle.rules.specs.Scan.{Scan, acts, Ends, Faults}
 use Rattle.section_scan.specs.Sections.{scanSections}
 use Rattle.section_scan.specs.Sections.Stepped.{sections-stepped, sections-end, sections-number}
 use Rattle.changes.specs.Changes.{scanChanges}

@@ -7,7 +7,7 @@ use mathlib.Core.List.{List, [], _∷_}
 use lib.ListN.{length, replicate}
 use Rattle.numbers.specs.Fixed.{bigBytes}
 use Rattle.tables.specs.Lists.{Lists}
-use Rattle.gather.specs.Run.{done}
+use Rattle.rules.specs.Scan.{done}
 use Rattle.answers.specs.Outcome.{accepted, refused}
 use Rattle.entries.specs.Entries.{reads, readSections, readChanges, applyTimeRule}
 use Rattle.entry_rows.specs.Rows.{Refuses, Gives, Fully, Keeps, lent, ample, tables, noSignals, lone, plain, twoState, nineState, small, sections, tailer, changes, rule}

@@ -12,7 +12,7 @@ use Rattle.numbers.specs.Fixed.{bigBytes}
 use Rattle.values.specs.declared.Read.the-variants.{Value, Bad}
 use Rattle.values.specs.Value.{unsigned, signed}
 use Rattle.rules.specs.Gather.{time, write, stepEnd}
-use Rattle.gather.specs.Run.{say, done, fault}
+use Rattle.rules.specs.Scan.{say, done, fault}
 use Rattle.section_scan.specs.Sections.{scanSections}
 use Rattle.changes.specs.Changes.{scanChanges}
 use Rattle.answers.specs.Outcome.{Left, Lent}

@@ -11,28 +11,10 @@ use Rattle.rules.specs.Gather.{Act, State, happens}
 use Rattle.rules.specs.Gather.Laws.{stateAfter}
 use Rattle.records.specs.Event.{Event}
 use Rattle.records.specs.Out.{Rooms, Out, appendAll}
-use Rattle.gather.specs.Run.{gathers, eventsOf, Scan, say, done, fault, acts}
+use Rattle.rules.specs.Scan.{Scan, acts, Ends, Faults, Says}
+use Rattle.gather.specs.Run.{gathers, eventsOf}
 use Rattle.gather.specs.Run.Rendered.{Misfit}
 pub mod Laws
-
--- a scan that was read to its end, at this place
-unfoldable pub Ends : ℕ → Scan → Type 0
-Ends i (say a p sc) = Ends i sc
-Ends i (done j) = i ≡ j
-Ends i (fault n p) = ⊥
-
--- a scan that was refused, with this number at this place
-unfoldable pub Faults : ℕ → ℕ → Scan → Type 0
-Faults n p (say a q sc) = Faults n p sc
-Faults n p (done i) = ⊥
-Faults n p (fault m q) = (n ≡ m) × (p ≡ q)
-
--- a scan that says an act behind some others, with this next unread byte after it
-unfoldable pub Says : Scan → List Act → Act → ℕ → Type 0
-Says (say a p sc) [] b q = (a ≡ b) × (p ≡ q)
-Says (say a p sc) (c ∷ cs) b q = (a ≡ c) × Says sc cs b q
-Says (done i) cs b q = ⊥
-Says (fault n p) cs b q = ⊥
 
 module _ (t : Lists) where
   -- the events of some acts

@@ -6,7 +6,8 @@ use mathlib.Core.Option.{Option, none, some}
 use Rattle.tables.specs.Lists.{Lists}
 use Rattle.rules.specs.Gather.{State}
 use Rattle.records.specs.Out.{Rooms, Out}
-use Rattle.gather.specs.Run.{Scan, say, done, fault, and-then, Went, went, out, fitted, acted, after, run}
+use Rattle.rules.specs.Scan.{Scan, say, done, fault, and-then}
+use Rattle.gather.specs.Run.{Went, went, out, fitted, acted, after, run}
 
 -- what follows where a part was read
 unfoldable pub went-on : Lists → Rooms → Went → (ℕ → Scan) → Went

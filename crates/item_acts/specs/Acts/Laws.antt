@@ -8,7 +8,8 @@ use native.Mathlib.Omega.{arith}
 use Rattle.tables.specs.Lists.{Lists}
 use Rattle.rules.specs.Gather.{State, stepEnd}
 use Rattle.records.specs.Out.{Rooms, Out}
-use Rattle.gather.specs.Run.{Scan, say, fault, run}
+use Rattle.rules.specs.Scan.{Scan, say, fault}
+use Rattle.gather.specs.Run.{run}
 use Rattle.gather.specs.Memory.{Holds, Mem}
 use Rattle.section_heads.specs.declared.Said.{Said}
 use Rattle.section_heads.specs.declared.Said.the-variants.{Nothing, Time, Write, StepEnd, Over, Bad}

@@ -18,7 +18,7 @@ use Rattle.vecmarks.specs.Info.{infoAt, isQuiet}
 use Rattle.vecbuffer.specs.Stands.{flagsAt}
 use Rattle.gather.specs.declared.VecInfo.{VecInfo}
 use Rattle.gather.specs.Memory.{HoldsAt, Holds, Mem, memOf, Tabled}
-use Rattle.gather.specs.Run.{Scan, say}
+use Rattle.rules.specs.Scan.{Scan, say}
 use Rattle.gather.specs.Makes.{Seen, vecInfo}
 use Rattle.section_heads.specs.declared.Said.{Said}
 use Rattle.section_heads.specs.declared.Phase.the-variants.{Listed}

@@ -37,8 +37,8 @@ list-tables-requires c κs = list-within (c .before .before .before .before .bef
 enum-known-number : tie.Need-enum-known-number
 enum-known-number c = search (short-laws, needs)
 
-wide-requires : tie.Need-wide-requires
-wide-requires c κs = search (short-laws, needs)
+u64-of-usize-requires : tie.Need-u64-of-usize-requires
+u64-of-usize-requires c κs = search (short-laws, needs)
 
 refuse-requires : tie.Need-refuse-requires
 refuse-requires c κs = search (short-laws, needs)
@@ -70,7 +70,7 @@ list-short-spec =
     slice-aggregate-list-tables-7
     list-tables-requires
     enum-known-number
-    wide-requires
+    u64-of-usize-requires
     refuse-requires
     same-length
     returns

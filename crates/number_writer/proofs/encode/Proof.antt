@@ -3,7 +3,7 @@
 use Prim.Native.Nat.{_-_}
 use lib.ListN.{length}
 use borrow.Author.Needs.{needs}
-use Rattle.number_writer.specs.Shortest.Code.{Encoding, encode-laws}
+use Rattle.number_writer.specs.Code.{Encoding, encode-laws}
 use Rattle.number_writer.proofs.encode.Statement.{statement}
 use Rattle.number_writer.proofs.encode.Tie as tie
 

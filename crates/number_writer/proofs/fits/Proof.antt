@@ -1,7 +1,7 @@
 -- Written by tools/proof-answers from proofs.map.
 -- `number_writer::fits` meets its contract: each need follows from `seven-laws`. Assumes nothing.
 use borrow.Author.Needs.{needs}
-use Rattle.number_writer.specs.Shortest.Code.{seven-laws}
+use Rattle.number_writer.specs.Code.{seven-laws}
 use Rattle.number_writer.proofs.fits.Statement.{statement}
 use Rattle.number_writer.proofs.fits.Tie as tie
 

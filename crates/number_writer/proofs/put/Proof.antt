@@ -1,6 +1,6 @@
 -- Written by tools/proof-answers from proofs.map.
 -- `number_writer::put` meets its contract: each need follows from `put-laws`. Assumes nothing.
-use Rattle.number_writer.specs.Shortest.Code.{put-laws}
+use Rattle.number_writer.specs.Code.{put-laws}
 use borrow.Author.Needs.{needs}
 use Rattle.number_writer.proofs.put.Statement.{statement}
 use Rattle.number_writer.proofs.put.Tie as tie

@@ -1,6 +1,6 @@
 -- Written by tools/proof-answers from proofs.map.
 -- `number_writer::put_front` meets its contract: each need follows from `front-laws`. Assumes nothing.
-use Rattle.number_writer.specs.Shortest.Code.{front-laws}
+use Rattle.number_writer.specs.Code.{front-laws}
 use borrow.Author.Needs.{needs}
 use Rattle.number_writer.proofs.put_front.Statement.{statement}
 use Rattle.number_writer.proofs.put_front.Tie as tie

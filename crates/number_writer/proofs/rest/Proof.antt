@@ -1,6 +1,6 @@
 -- Written by tools/proof-answers from proofs.map.
 -- `number_writer::rest` meets its contract: each need follows from `seven-laws`. Assumes nothing.
-use Rattle.number_writer.specs.Shortest.Code.{seven-laws}
+use Rattle.number_writer.specs.Code.{seven-laws}
 use borrow.Author.Needs.{needs}
 use Rattle.number_writer.proofs.rest.Statement.{statement}
 use Rattle.number_writer.proofs.rest.Tie as tie

@@ -11,7 +11,7 @@ use Rattle.slices.specs.Splice.Laws.{splice-nil, splice-snoc}
 use Rattle.numbers.specs.Fixed.{bigBytes}
 use Rattle.numbers.specs.Fixed.Laws.{length-bigBytes}
 use Rattle.number_writer.specs.Put.{afterPut}
-use Rattle.number_writer.specs.Shortest.Code.{put-bytes}
+use Rattle.number_writer.specs.Code.{put-bytes}
 use Rattle.number_writer.specs.Little.{littleBytes, fixedBytes}
 use Rattle.number_writer.specs.Little.Laws.{length-littleBytes}
 

@@ -11,11 +11,11 @@ returns c = search (delta-laws, needs)
 returns-2 : tie.Need-returns-2
 returns-2 c = search (delta-laws, needs)
 
-wide-requires : tie.Need-wide-requires
-wide-requires c κs = search (delta-laws, needs)
+usize-of-byte-requires : tie.Need-usize-of-byte-requires
+usize-of-byte-requires c κs = search (delta-laws, needs)
 
 returns-3 : tie.Need-returns-3
 returns-3 c = search (delta-laws, needs)
 
 pub short-delta-spec : {M : Type 1} → statement M
-short-delta-spec = tie.close (tie.spec returns returns-2 wide-requires returns-3)
+short-delta-spec = tie.close (tie.spec returns returns-2 usize-of-byte-requires returns-3)

@@ -25,11 +25,11 @@ short-value-requires c κs = search (take-laws, needs)
 enum-known-value : tie.Need-enum-known-value
 enum-known-value c = search (take-laws, needs)
 
-wide-requires : tie.Need-wide-requires
-wide-requires c κs = search (take-laws, needs)
+usize-of-byte-requires : tie.Need-usize-of-byte-requires
+usize-of-byte-requires c κs = search (take-laws, needs)
 
 store-down-requires : tie.Need-store-down-requires
-store-down-requires c κs = ask-down (c .before .before .before .before .before .before .before .before .before .before .before .before .pre) (c .before .before .before .before .before .before .before .before .short-delta .ensures) (c .before .before .before .before .before .before .before .if1 .left) (c .before .before .before .before .before .short-value .ensures) (c .before .before .before .value .given .1) (c .wide .ensures)
+store-down-requires c κs = ask-down (c .before .before .before .before .before .before .before .before .before .before .before .before .pre) (c .before .before .before .before .before .before .before .before .short-delta .ensures) (c .before .before .before .before .before .before .before .if1 .left) (c .before .before .before .before .before .short-value .ensures) (c .before .before .before .value .given .1) (c .usize-of-byte .ensures .0)
 
 enum-told : tie.Need-enum-told
 enum-told c = search (take-laws, needs)
@@ -54,7 +54,7 @@ take-change-spec =
     shared-slice-read-short-value
     short-value-requires
     enum-known-value
-    wide-requires
+    usize-of-byte-requires
     store-down-requires
     enum-told
     same-length

@@ -11,23 +11,23 @@ cast-stranger c = search (names-laws, needs)
 add-stranger : tie.Need-add-stranger
 add-stranger c = search (names-laws, needs)
 
-mul-widen : tie.Need-mul-widen
-mul-widen c = search (names-laws, needs)
+mul-usize-of-u32 : tie.Need-mul-usize-of-u32
+mul-usize-of-u32 c = search (names-laws, needs)
 
-shared-slice-read-widen : tie.Need-shared-slice-read-widen
-shared-slice-read-widen c = search (names-laws, needs)
+shared-slice-read-usize-of-u32 : tie.Need-shared-slice-read-usize-of-u32
+shared-slice-read-usize-of-u32 c = search (names-laws, needs)
 
-widen-requires : tie.Need-widen-requires
-widen-requires c κs = search (names-laws, needs)
+usize-of-u32-requires : tie.Need-usize-of-u32-requires
+usize-of-u32-requires c κs = search (names-laws, needs)
 
-mul-widen-2 : tie.Need-mul-widen-2
-mul-widen-2 c = search (names-laws, needs)
+mul-usize-of-u32-2 : tie.Need-mul-usize-of-u32-2
+mul-usize-of-u32-2 c = search (names-laws, needs)
 
-shared-slice-read-widen-2 : tie.Need-shared-slice-read-widen-2
-shared-slice-read-widen-2 c = search (names-laws, needs)
+shared-slice-read-usize-of-u32-2 : tie.Need-shared-slice-read-usize-of-u32-2
+shared-slice-read-usize-of-u32-2 c = search (names-laws, needs)
 
-widen-requires-2 : tie.Need-widen-requires-2
-widen-requires-2 c κs = search (names-laws, needs)
+usize-of-u32-requires-2 : tie.Need-usize-of-u32-requires-2
+usize-of-u32-requires-2 c κs = search (names-laws, needs)
 
 stranger-requires : tie.Need-stranger-requires
 stranger-requires c κs = search (names-laws, needs)
@@ -41,11 +41,11 @@ stranger-in-spec =
     (tie.spec
     cast-stranger
     add-stranger
-    mul-widen
-    shared-slice-read-widen
-    widen-requires
-    mul-widen-2
-    shared-slice-read-widen-2
-    widen-requires-2
+    mul-usize-of-u32
+    shared-slice-read-usize-of-u32
+    usize-of-u32-requires
+    mul-usize-of-u32-2
+    shared-slice-read-usize-of-u32-2
+    usize-of-u32-requires-2
     stranger-requires
     returns)

@@ -11,12 +11,12 @@ use Rattle.leb128.specs.Leb128.{goesOn, lebOf, signedBits, signedTenth, signedV
 use Rattle.leb128.specs.Leb128 as leb
 use Rattle.numbers.specs.Marks.{same, sectionOf, snp, esn, cyc, ecy, dir, eod, tai}
 use Rattle.number_writer.specs.Ended.{Ended, wrote, refused}
-use Rattle.states.specs.Letters.{ieee1164, crateOrder, placeOf, mapped}
+use Rattle.states.specs.Letters.{ieee1164, crateOrder, placeOf, mapped, unmapped}
 use Rattle.tables.specs.Lists.{Lists, lists, nth, signals}
 use Rattle.values.specs.Value.{onRead, number, unsigned, signed, byteUpTo, real, value}
-use Rattle.gather.specs.Run.{and-then}
+use Rattle.rules.specs.Scan.{and-then}
 use Rattle.section_scan.specs.Sections.{field, endMark, eachValue, nextId, oneChange, changeList, nextTime, snapshot, oneStep, steps, cycle, entries, directory, oneSection, sections, scanSections}
-use Rattle.read_back.specs.ReadBack.{unmapped, byteOf, writeOf, recordOf, times, giving, readBack}
+use Rattle.read_back.specs.ReadBack.{byteOf, writeOf, recordOf, times, giving, readBack}
 
 -- change records
 abbrev opens : ℕ → List ℕ

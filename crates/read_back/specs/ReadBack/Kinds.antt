@@ -10,7 +10,7 @@ use lib.Dec.{leb}
 use Rattle.number_writer.specs.Ended.{refused}
 use Rattle.tables.specs.Lists.{Lists}
 use Rattle.rules.specs.Gather.{time, write, stepEnd}
-use Rattle.gather.specs.Run.{Scan}
+use Rattle.rules.specs.Scan.{Scan}
 use Rattle.section_scan.specs.Sections.{withKinds}
 use Rattle.section_heads.specs.Heads.{standing}
 use Rattle.section_heads.specs.declared.How.{How}

@@ -1,31 +1,16 @@
--- The records of a scan, where there is room for them; and the byte of a value.
+-- The records of a scan, where there is room for them.
 -- Assumes nothing.
-use mathlib.Core.Path.{_≡_, refl, _∙_}
-use Prim.Native.Nat.{ℕ, zero, suc, _+_, _≤_}
+use mathlib.Core.Path.{_≡_, _∙_}
+use Prim.Native.Nat.{ℕ, _+_, _≤_}
 use mathlib.Core.List.{List, [], _++_, append-assoc, append-nil}
 use native.Mathlib.Nat.{add-zero, add-assoc}
 use native.Mathlib.Omega.{arith}
 use borrow.Author.Tests.{le-leb}
 use lib.ListN.{length, length-append}
 use Rattle.number_writer.specs.Ended.{wrote, refused}
-use Rattle.states.specs.Letters.{ieee1164, crateOrder, placeOf, mapped}
 use Rattle.tables.specs.Lists.{Lists}
-use Rattle.gather.specs.Run.{Scan, say, done, fault}
-use Rattle.read_back.specs.ReadBack.{unmapped, recordOf, times, giving}
-
--- what was mapped comes back
-pub unmapped-back : (b : ℕ) → b ≤ 8 → unmapped (mapped b) ≡ b
-unfolding unmapped mapped ieee1164 crateOrder placeOf
-unmapped-back zero h = refl
-unmapped-back (suc zero) h = refl
-unmapped-back (suc (suc zero)) h = refl
-unmapped-back (suc (suc (suc zero))) h = refl
-unmapped-back (suc (suc (suc (suc zero)))) h = refl
-unmapped-back (suc (suc (suc (suc (suc zero))))) h = refl
-unmapped-back (suc (suc (suc (suc (suc (suc zero)))))) h = refl
-unmapped-back (suc (suc (suc (suc (suc (suc (suc zero))))))) h = refl
-unmapped-back (suc (suc (suc (suc (suc (suc (suc (suc zero)))))))) h = refl
-unmapped-back (suc (suc (suc (suc (suc (suc (suc (suc (suc b))))))))) h = absurd (omega arith)
+use Rattle.rules.specs.Scan.{Scan, say, done, fault}
+use Rattle.read_back.specs.ReadBack.{recordOf, times, giving}
 
 -- the records of all acts, how many of them are times, and that nothing is refused
 unfoldable pub recordsOf : Lists → Scan → List ℕ

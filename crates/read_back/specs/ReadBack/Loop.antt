@@ -13,7 +13,7 @@ use Rattle.number_writer.specs.Ended.{Ended, refused, Fills}
 use Rattle.filling.specs.Filling.{Filling, puts-none, filling-start, filling-used, filling-inside}
 use Rattle.filling.specs.Filling.Steps.{Step, Takes, filling-step}
 use Rattle.tables.specs.Lists.{Lists}
-use Rattle.gather.specs.Run.{Scan}
+use Rattle.rules.specs.Scan.{Scan}
 use Rattle.section_scan.specs.Sections.{withKinds}
 use Rattle.section_heads.specs.Heads.{standing}
 use Rattle.section_heads.specs.declared.How.{How}

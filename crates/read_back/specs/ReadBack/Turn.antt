@@ -1,13 +1,13 @@
 -- What the proofs search of the code that writes change records: their bytes, and one item.
 -- Assumes nothing.
 use mathlib.Core.Path.{_≡_, refl, sym, ap, subst, _∙_}
-use Prim.Native.Nat.{ℕ, zero, suc, _+_, _/_, _%_, _^_, _≤_, _<_}
+use Prim.Native.Nat.{ℕ, _+_, _/_, _%_, _^_, _≤_, _<_}
 use mathlib.Core.Bool.{Bool, true, false, cond, false≢true}
 use mathlib.Core.List.{List, [], _∷_}
 use native.Mathlib.Nat.{div-add-mod'}
 use native.Mathlib.Omega.{arith}
 use borrow.Author.Tests.{le-leb, lt-leb}
-use lib.ListN.{length, getD}
+use lib.ListN.{length}
 use lib.Dec.{leb}
 use mir.Val.{Fits}
 use mir.Syntax.{w8, w32}
@@ -20,7 +20,7 @@ use Rattle.numbers.specs.Fixed.{bigBytes}
 use Rattle.numbers.specs.Fixed.Laws.{length-bigBytes, bigBytes-low}
 use Rattle.number_writer.specs.Put.{afterPut, Puts, puts-one, puts-short, puts-more}
 use Rattle.number_writer.specs.Little.{fixedBytes}
-use Rattle.states.specs.Letters.{ieee1164, crateOrder, placeOf}
+use Rattle.states.specs.Letters.{unmapped}
 use Rattle.tables.specs.Lists.{nth}
 use Rattle.values.specs.Value.{mostOf, Suits}
 use Rattle.section_heads.specs.declared.Stand.{Stand}
@@ -34,7 +34,7 @@ use Rattle.read_back.specs.declared.Progress.{Progress}
 use Rattle.read_back.specs.declared.Turn.{Turn}
 use Rattle.read_back.specs.declared.Turn.the-variants.{More, Stops}
 use Rattle.number_writer.specs.declared.Written.the-variants.{Refused}
-use Rattle.read_back.specs.ReadBack.{unmapped, byteOf, writeOf}
+use Rattle.read_back.specs.ReadBack.{byteOf, writeOf}
 use Rattle.sections.specs.Item.Code.{IdOf}
 use Rattle.sections.specs.Item.Scans.{saidTimes, ends, Sound}
 
@@ -87,32 +87,21 @@ pub ruleset time-laws = (time-short, time-more)
 
 pub ruleset head-laws = (head-short, head-more)
 
--- the byte of a value
-table-is : (v : ℕ) → v ≤ 8 → getD (2 ∷ 3 ∷ 1 ∷ 4 ∷ 7 ∷ 0 ∷ 5 ∷ 6 ∷ 8 ∷ []) v 0 ≡ unmapped v
-unfolding unmapped ieee1164 crateOrder placeOf
-table-is zero h = refl
-table-is (suc zero) h = refl
-table-is (suc (suc zero)) h = refl
-table-is (suc (suc (suc zero))) h = refl
-table-is (suc (suc (suc (suc zero)))) h = refl
-table-is (suc (suc (suc (suc (suc zero))))) h = refl
-table-is (suc (suc (suc (suc (suc (suc zero)))))) h = refl
-table-is (suc (suc (suc (suc (suc (suc (suc zero))))))) h = refl
-table-is (suc (suc (suc (suc (suc (suc (suc (suc zero)))))))) h = refl
-table-is (suc (suc (suc (suc (suc (suc (suc (suc (suc v))))))))) h = absurd (omega arith)
-
 -- a value of a byte's kind
 pub record Small (kind v : ℕ) : Type 0 where
   pub within : v ≤ mostOf kind
 
 module _ {kind v : ℕ} (w : Small kind v) where
-  pub nine-small : kind ≤ 1 → v < 9
+  pub nine-small : kind ≤ 1 → v ≤ 8
   unfolding mostOf
-  nine-small h = let m : v ≤ 8 = rw (le-leb kind 1 h) at (w .within) in omega arith
+  nine-small h = rw (le-leb kind 1 h) at (w .within)
 
-  pub nine-byte : kind ≤ 1 → getD (2 ∷ 3 ∷ 1 ∷ 4 ∷ 7 ∷ 0 ∷ 5 ∷ 6 ∷ 8 ∷ []) v 0 ≡ byteOf kind v
+  pub nine-fits : kind ≤ 1 → Fits w8 v
+  nine-fits h = let m = nine-small h in omega arith
+
+  pub nine-byte : kind ≤ 1 → {b : ℕ} → b ≡ unmapped v → b ≡ byteOf kind v
   unfolding byteOf
-  nine-byte h = let m = nine-small h in rw (le-leb kind 1 h) (table-is v (omega arith))
+  nine-byte h e = rw (le-leb kind 1 h) e
 
   most-small : (b : Bool) → v ≤ cond b 1 255 → v ≤ 255
   most-small true h = omega arith
@@ -126,7 +115,7 @@ module _ {kind v : ℕ} (w : Small kind v) where
   unfolding byteOf
   other-byte h = rw (lt-leb kind 1 h)
 
-pub ruleset byte-laws = (nine-small, nine-byte, byte-fits, other-byte)
+pub ruleset byte-laws = (nine-small, nine-fits, nine-byte, byte-fits, other-byte)
 
 module _ (kind id v : ℕ) {out : List ℕ} {at : ℕ} {out₁ : List ℕ} {f : Field} where
   module _ (h : kind ≤ 4) (q : Puts out at (2 ∷ bigBytes 4 id) out₁ f) where

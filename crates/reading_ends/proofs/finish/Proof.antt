@@ -14,8 +14,8 @@ accept-requires c κs = search (finish-laws, needs)
 enum-known-part-2 : tie.Need-enum-known-part-2
 enum-known-part-2 c = search (finish-laws, needs)
 
-widen-requires : tie.Need-widen-requires
-widen-requires c κs = search (finish-laws, needs)
+u64-of-usize-requires : tie.Need-u64-of-usize-requires
+u64-of-usize-requires c κs = search (finish-laws, needs)
 
 refuse-used-requires : tie.Need-refuse-used-requires
 refuse-used-requires c κs = search (finish-laws, needs)
@@ -57,7 +57,7 @@ finish-spec =
     enum-known-part
     accept-requires
     enum-known-part-2
-    widen-requires
+    u64-of-usize-requires
     refuse-used-requires
     same-length
     same-length-2

@@ -11,11 +11,11 @@ enum-told c = search (test-laws, needs)
 enum-known-event : tie.Need-enum-known-event
 enum-known-event c = search (test-laws, needs)
 
-widen-requires : tie.Need-widen-requires
-widen-requires c κs = search (test-laws, needs)
+usize-of-u32-requires : tie.Need-usize-of-u32-requires
+usize-of-u32-requires c κs = search (test-laws, needs)
 
-widen-requires-2 : tie.Need-widen-requires-2
-widen-requires-2 c κs = search (test-laws, needs)
+usize-of-u32-requires-2 : tie.Need-usize-of-u32-requires-2
+usize-of-u32-requires-2 c κs = search (test-laws, needs)
 
 add-result : tie.Need-add-result
 add-result c = search (test-laws, needs)
@@ -38,8 +38,8 @@ in-values-spec =
     (tie.spec
     enum-told
     enum-known-event
-    widen-requires
-    widen-requires-2
+    usize-of-u32-requires
+    usize-of-u32-requires-2
     add-result
     enum-told-2
     returns

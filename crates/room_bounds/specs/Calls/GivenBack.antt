@@ -20,8 +20,8 @@ use Rattle.values.specs.Value.{value, real}
 use Rattle.values.specs.Value.Laws.{value-next, value-real}
 use Rattle.rules.specs.Vector.Laws.{by-test}
 use Rattle.rules.specs.Gather.{Act, time, write, stepEnd}
-use Rattle.gather.specs.Run.{Scan, say}
-use Rattle.gather.specs.Run as run
+use Rattle.rules.specs.Scan.{Scan, say}
+use Rattle.rules.specs.Scan as scan
 use Rattle.section_scan.specs.Sections.{scanSections}
 use Rattle.section_scan.specs.Sections.Stepped.{sections-number}
 use Rattle.read_back.specs.ReadBack.{writeOf, recordOf, times}
@@ -94,8 +94,8 @@ module _ (t : Lists) (s : List ℕ) where
   unfolding givenFrom bytesOf costsOf
   given-long (say a p rest) n =
       length-append (recordOf t a) _ ∙ ap (λ (m : ℕ). length (recordOf t a) + m) (given-long rest (n + times a))
-  given-long (run.done i) n = refl
-  given-long (run.fault m p) n = refl
+  given-long (scan.done i) n = refl
+  given-long (scan.fault m p) n = refl
 
   module _ (flag : Bool) where
     back-long : length (bytesOf (givenBack t flag s)) ≤ backRoom t (length s)

@@ -12,9 +12,9 @@ use lib.ListN.{length, length-append, replicate}
 use lib.Dec.{ltb, leb, eqb}
 use Rattle.slices.specs.Choice.{cond-ind, le-or-lt}
 use Rattle.numbers.specs.Marks.{ecy, tai}
-use Rattle.number_writer.specs.Shortest.{unsignedBytes, signedBytes}
-use Rattle.number_writer.specs.Shortest.Groups.{unsigned-short}
-use Rattle.number_writer.specs.Shortest.Laws.{bytes-most}
+use Rattle.leb128.specs.Shortest.{unsignedBytes, signedBytes}
+use Rattle.leb128.specs.Shortest.Groups.{unsigned-short}
+use Rattle.leb128.specs.Shortest.Laws.{bytes-most}
 use Rattle.number_writer.specs.Little.Laws.{length-littleBytes, length-fixedBytes}
 use Rattle.tables.specs.Lists.{Lists, nth, signals}
 use Rattle.tables.specs.Checks.Laws.{then-passed}
@@ -23,9 +23,8 @@ use Rattle.tables.specs.declared.Check.the-variants.{Passed}
 use Rattle.checks.specs.Checked.{checksWithoutRoom, without-number}
 use Rattle.rules.specs.Vector.Laws.{by-test}
 use Rattle.rules.specs.Gather.{time, write, stepEnd}
-use Rattle.gather.specs.Run.{Scan, say}
-use Rattle.gather.specs.Run as run
-use Rattle.gather.specs.Run.Events as scan
+use Rattle.rules.specs.Scan.{Scan, say}
+use Rattle.rules.specs.Scan as scan
 use Rattle.changes.specs.declared.Change.{Change}
 use Rattle.changes.specs.declared.Change.the-variants as change
 use Rattle.changes.specs.Changes.{nextChange, scanChanges}
@@ -185,8 +184,8 @@ order-number (say (write k x r) q rest) begun u id i n p =
     cond-ind (ltb id k) _ _ (λ x. scan.Faults n p x → scan.Faults n p rest ⊎ ((n ≡ 22) ⊎ (n ≡ 23)))
     (λ h f. order-number rest begun u k q n p f) (λ h f. inr (inl (f .0)))
 order-number (say stepEnd q rest) begun u id i n p = λ f. order-number rest begun u id q n p f
-order-number (run.done j) begun u id i n p = λ f. absurd f
-order-number (run.fault m q) begun u id i n p = λ f. inl f
+order-number (scan.done j) begun u id i n p = λ f. absurd f
+order-number (scan.fault m q) begun u id i n p = λ f. inl f
 
 module _ (t : Lists) (flag : Bool) (s : List ℕ) (room : ℕ) where
   few-signals : checksWithoutRoom t (length s) room ≡ Passed → signals t ≤ 65535

@@ -20,8 +20,8 @@ use Rattle.values.specs.declared.Read.the-variants.{Value, Bad}
 use Rattle.values.specs.Value.{onRead, unsigned, signed, value}
 use Rattle.values.specs.Value.Laws.{Ahead, unsigned-ahead, signed-ahead, value-ahead}
 use Rattle.rules.specs.Gather.{Act, time, write, stepEnd}
-use Rattle.gather.specs.Run.{Scan, done, fault, and-then}
-use Rattle.gather.specs.Run.Ordered.{then-then}
+use Rattle.rules.specs.Scan.{Scan, done, fault, and-then}
+use Rattle.rules.specs.Scan.Ordered.{then-then}
 use Rattle.section_scan.specs.declared.NextId.{NextId}
 use Rattle.section_scan.specs.declared.NextId.the-variants as ids
 use Rattle.section_scan.specs.declared.NextTime.{NextTime}

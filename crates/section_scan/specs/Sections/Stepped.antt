@@ -21,9 +21,8 @@ use Rattle.values.specs.Value.{onRead, unsigned, signed, value}
 use Rattle.values.specs.Value.Reads.{Reads, unsigned-reads, signed-reads, value-reads}
 use Rattle.rules.specs.Steps.{Stepped}
 use Rattle.rules.specs.Once.{Rising}
-use Rattle.gather.specs.Run.{Scan, done, fault, acts, and-then}
-use Rattle.gather.specs.Run.Events.{Ends, Faults}
-use Rattle.gather.specs.Run.Ordered.{Ordered, ordered-steps, ordered-end, ordered-fault, ordered-rising, then-then}
+use Rattle.rules.specs.Scan.{Scan, done, fault, acts, and-then, Ends, Faults}
+use Rattle.rules.specs.Scan.Ordered.{Ordered, ordered-steps, ordered-end, ordered-fault, ordered-rising, then-then}
 use Rattle.section_scan.specs.declared.NextId.{NextId}
 use Rattle.section_scan.specs.declared.NextId.the-variants as ids
 use Rattle.section_scan.specs.declared.NextTime.{NextTime}

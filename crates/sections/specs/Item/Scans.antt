@@ -23,7 +23,7 @@ use Rattle.values.specs.declared.Read.the-variants as read
 use Rattle.values.specs.Value.{onRead, value, Suits}
 use Rattle.values.specs.Value.Laws.{Ahead, value-ahead, value-suits}
 use Rattle.rules.specs.Gather.{time, write, stepEnd}
-use Rattle.gather.specs.Run.{Scan, say, done, fault, and-then}
+use Rattle.rules.specs.Scan.{Scan, say, done, fault, and-then}
 use Rattle.section_scan.specs.Sections.{field, endMark, eachValue, nextId, oneChange, changeList, nextTime, snapshot, oneStep, steps, cycle, entries, directory, oneSection, sections, scanSections}
 use Rattle.section_scan.specs.Sections.Deltas.{IdAhead, id-ahead, id-none, id-same, TimeAhead, time-ahead}
 use Rattle.section_scan.specs.declared.NextId.{NextId}

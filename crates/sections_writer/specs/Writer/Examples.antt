@@ -9,7 +9,7 @@ use Rattle.slices.specs.Splice.{part}
 use Rattle.numbers.specs.Fixed.{big, little, bigBytes}
 use Rattle.numbers.specs.Marks.{cyc, ecy, tai}
 use Rattle.number_writer.specs.Ended.{Ended, wrote, refused}
-use Rattle.number_writer.specs.Shortest.{fits, rest, groups}
+use Rattle.leb128.specs.Shortest.{fits, rest, groups}
 use Rattle.number_writer.specs.Little.{littleBytes, fixedBytes}
 use Rattle.states.specs.Letters.{mapped}
 use Rattle.tables.specs.Lists.{Lists, lists, nth, signals}

@@ -13,7 +13,7 @@ use Rattle.slices.specs.declared.Field.{Field}
 use Rattle.slices.specs.declared.Field.the-variants.{Next, Short}
 use Rattle.numbers.specs.Marks.{cyc, ecy, tai}
 use Rattle.number_writer.specs.Put.{afterPut, Puts, puts-one, puts-short, puts-more}
-use Rattle.number_writer.specs.Shortest.{unsignedBytes, signedBytes}
+use Rattle.leb128.specs.Shortest.{unsignedBytes, signedBytes}
 use Rattle.number_writer.specs.Little.{littleBytes, fixedBytes}
 use Rattle.number_writer.specs.Little.Laws.{length-littleBytes, length-fixedBytes}
 use Rattle.filling.specs.Filling.{puts-none}

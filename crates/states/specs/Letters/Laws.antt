@@ -9,7 +9,7 @@ use native.Mathlib.Omega.{arith}
 use lib.ListN.{length, getD}
 use borrow.Author.Tests.{leb-true}
 use lib.Dec.{leb}
-use Rattle.states.specs.Letters.{ieee1164, crateOrder, placeOf, mapped}
+use Rattle.states.specs.Letters.{ieee1164, crateOrder, placeOf, mapped, unmapped}
 
 -- "mapped by [5,2,0,1,3,6,7,4,8]"
 abbrev pub table : List ℕ
@@ -80,4 +80,37 @@ pub mapped-most : (b : ℕ) → b ≤ 8 → mapped b ≤ 8
 unfolding small
 mapped-most b h = rw (← table-maps b h) (small-at table b refl)
 
+-- what was mapped comes back
+pub unmapped-back : (b : ℕ) → b ≤ 8 → unmapped (mapped b) ≡ b
+unfolding unmapped mapped ieee1164 crateOrder placeOf
+unmapped-back zero h = refl
+unmapped-back (suc zero) h = refl
+unmapped-back (suc (suc zero)) h = refl
+unmapped-back (suc (suc (suc zero))) h = refl
+unmapped-back (suc (suc (suc (suc zero)))) h = refl
+unmapped-back (suc (suc (suc (suc (suc zero))))) h = refl
+unmapped-back (suc (suc (suc (suc (suc (suc zero)))))) h = refl
+unmapped-back (suc (suc (suc (suc (suc (suc (suc zero))))))) h = refl
+unmapped-back (suc (suc (suc (suc (suc (suc (suc (suc zero)))))))) h = refl
+unmapped-back (suc (suc (suc (suc (suc (suc (suc (suc (suc b))))))))) h = absurd (omega arith)
+
+-- the table of the way back
+abbrev pub inverse : List ℕ
+inverse = 2 ∷ 3 ∷ 1 ∷ 4 ∷ 7 ∷ 0 ∷ 5 ∷ 6 ∷ 8 ∷ []
+
+pub inverse-unmaps : (v : ℕ) → v ≤ 8 → getD inverse v 0 ≡ unmapped v
+unfolding unmapped ieee1164 crateOrder placeOf
+inverse-unmaps zero h = refl
+inverse-unmaps (suc zero) h = refl
+inverse-unmaps (suc (suc zero)) h = refl
+inverse-unmaps (suc (suc (suc zero))) h = refl
+inverse-unmaps (suc (suc (suc (suc zero)))) h = refl
+inverse-unmaps (suc (suc (suc (suc (suc zero))))) h = refl
+inverse-unmaps (suc (suc (suc (suc (suc (suc zero)))))) h = refl
+inverse-unmaps (suc (suc (suc (suc (suc (suc (suc zero))))))) h = refl
+inverse-unmaps (suc (suc (suc (suc (suc (suc (suc (suc zero)))))))) h = refl
+inverse-unmaps (suc (suc (suc (suc (suc (suc (suc (suc (suc v))))))))) h = absurd (omega arith)
+
 pub ruleset table-laws = (table-maps, digit-maps)
+
+pub ruleset inverse-laws = (inverse-unmaps)

@@ -8,11 +8,11 @@ use Rattle.step_ends.proofs.show.Tie as tie
 enum-told : tie.Need-enum-told
 enum-told c = search (show-laws, needs)
 
-widen-requires : tie.Need-widen-requires
-widen-requires c κs = search (show-laws, needs)
+usize-of-u32-requires : tie.Need-usize-of-u32-requires
+usize-of-u32-requires c κs = search (show-laws, needs)
 
-widen-requires-2 : tie.Need-widen-requires-2
-widen-requires-2 c κs = search (show-laws, needs)
+usize-of-u32-requires-2 : tie.Need-usize-of-u32-requires-2
+usize-of-u32-requires-2 c κs = search (show-laws, needs)
 
 value-of-requires : tie.Need-value-of-requires
 value-of-requires c κs = search (show-laws, needs)
@@ -20,11 +20,11 @@ value-of-requires c κs = search (show-laws, needs)
 enum-told-2 : tie.Need-enum-told-2
 enum-told-2 c = search (show-laws, needs)
 
-widen-requires-3 : tie.Need-widen-requires-3
-widen-requires-3 c κs = search (show-laws, needs)
+usize-of-u32-requires-3 : tie.Need-usize-of-u32-requires-3
+usize-of-u32-requires-3 c κs = search (show-laws, needs)
 
-widen-requires-4 : tie.Need-widen-requires-4
-widen-requires-4 c κs = search (show-laws, needs)
+usize-of-u32-requires-4 : tie.Need-usize-of-u32-requires-4
+usize-of-u32-requires-4 c κs = search (show-laws, needs)
 
 value-of-requires-2 : tie.Need-value-of-requires-2
 value-of-requires-2 c κs = search (show-laws, needs)
@@ -32,11 +32,11 @@ value-of-requires-2 c κs = search (show-laws, needs)
 enum-told-3 : tie.Need-enum-told-3
 enum-told-3 c = search (show-laws, needs)
 
-widen-requires-5 : tie.Need-widen-requires-5
-widen-requires-5 c κs = search (show-laws, needs)
+usize-of-u32-requires-5 : tie.Need-usize-of-u32-requires-5
+usize-of-u32-requires-5 c κs = search (show-laws, needs)
 
-widen-requires-6 : tie.Need-widen-requires-6
-widen-requires-6 c κs = search (show-laws, needs)
+usize-of-u32-requires-6 : tie.Need-usize-of-u32-requires-6
+usize-of-u32-requires-6 c κs = search (show-laws, needs)
 
 value-of-requires-3 : tie.Need-value-of-requires-3
 value-of-requires-3 c κs = search (show-laws, needs)
@@ -61,16 +61,16 @@ show-spec =
     tie.close
     (tie.spec
     enum-told
-    widen-requires
-    widen-requires-2
+    usize-of-u32-requires
+    usize-of-u32-requires-2
     value-of-requires
     enum-told-2
-    widen-requires-3
-    widen-requires-4
+    usize-of-u32-requires-3
+    usize-of-u32-requires-4
     value-of-requires-2
     enum-told-3
-    widen-requires-5
-    widen-requires-6
+    usize-of-u32-requires-5
+    usize-of-u32-requires-6
     value-of-requires-3
     enum-told-4
     returns

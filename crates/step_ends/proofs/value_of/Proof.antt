@@ -19,14 +19,14 @@ loop-holds c = search (spell-laws, needs)
 mul-value : tie.Need-mul-value Inv-loop μ-loop
 mul-value c = search (spell-laws, needs)
 
-add-wide : tie.Need-add-wide Inv-loop μ-loop
-add-wide c = search (spell-laws, needs)
+add-u32-of-byte : tie.Need-add-u32-of-byte Inv-loop μ-loop
+add-u32-of-byte c = search (spell-laws, needs)
 
-shared-slice-read-wide : tie.Need-shared-slice-read-wide Inv-loop μ-loop
-shared-slice-read-wide c = search (spell-laws, needs)
+shared-slice-read-u32-of-byte : tie.Need-shared-slice-read-u32-of-byte Inv-loop μ-loop
+shared-slice-read-u32-of-byte c = search (spell-laws, needs)
 
-wide-requires : tie.Need-wide-requires Inv-loop μ-loop
-wide-requires c κs = search (spell-laws, needs)
+u32-of-byte-requires : tie.Need-u32-of-byte-requires Inv-loop μ-loop
+u32-of-byte-requires c κs = search (spell-laws, needs)
 
 add-value : tie.Need-add-value Inv-loop μ-loop
 add-value c = search (spell-laws, needs)
@@ -51,9 +51,9 @@ value-of-spec =
     μ-loop
     loop-holds
     mul-value
-    add-wide
-    shared-slice-read-wide
-    wide-requires
+    add-u32-of-byte
+    shared-slice-read-u32-of-byte
+    u32-of-byte-requires
     add-value
     add-i
     loop-less

@@ -14,14 +14,14 @@ mul-good c = search (test-laws, needs)
 shared-slice-read-good : tie.Need-shared-slice-read-good
 shared-slice-read-good c = search (test-laws, needs)
 
-mul-widen : tie.Need-mul-widen
-mul-widen c = search (test-laws, needs)
+mul-usize-of-u32 : tie.Need-mul-usize-of-u32
+mul-usize-of-u32 c = search (test-laws, needs)
 
-shared-slice-read-widen : tie.Need-shared-slice-read-widen
-shared-slice-read-widen c = search (test-laws, needs)
+shared-slice-read-usize-of-u32 : tie.Need-shared-slice-read-usize-of-u32
+shared-slice-read-usize-of-u32 c = search (test-laws, needs)
 
-widen-requires : tie.Need-widen-requires
-widen-requires c κs = search (test-laws, needs)
+usize-of-u32-requires : tie.Need-usize-of-u32-requires
+usize-of-u32-requires c κs = search (test-laws, needs)
 
 suits-requires : tie.Need-suits-requires
 suits-requires c κs = search (test-laws, needs)
@@ -45,9 +45,9 @@ good-signal-spec =
     shared-slice-read-kind
     mul-good
     shared-slice-read-good
-    mul-widen
-    shared-slice-read-widen
-    widen-requires
+    mul-usize-of-u32
+    shared-slice-read-usize-of-u32
+    usize-of-u32-requires
     suits-requires
     returns
     suits-requires-2

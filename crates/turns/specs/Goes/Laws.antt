@@ -30,7 +30,8 @@ use Rattle.vecbuffer.specs.Stands.{storing, clearing}
 use Rattle.vecbuffer.specs.Stands.Order.{none-listed}
 use Rattle.vecbuffer.specs.Stands.Laws.{asks-flags, asks-vector, asks-known, asks-update, second-is, full-is, has-is, stands-update, listed-at, stands-unlisted, stands-over}
 use Rattle.gather.specs.declared.VecInfo.{VecInfo}
-use Rattle.gather.specs.Run.{gathers, alone, ofVector, eventsOf, Scan, say, out, fitted, acted, after, run}
+use Rattle.rules.specs.Scan.{Scan, say}
+use Rattle.gather.specs.Run.{gathers, alone, ofVector, eventsOf, out, fitted, acted, after, run}
 use Rattle.gather.specs.Memory.{Holds, Mem, memOf, Tabled, HoldsAt}
 use Rattle.gather.specs.Memory.Laws.{clean-updated, clean-unlisted}
 use Rattle.gather.specs.Makes.{Seen, Shown, vecInfo, eventOf, shownEvents, shownState, always}

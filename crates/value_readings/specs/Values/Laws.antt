@@ -7,7 +7,7 @@ use mathlib.Core.List.{List}
 use native.Mathlib.Omega.{arith}
 use lib.ListN.{length}
 use Rattle.tables.specs.Lists.{Lists}
-use Rattle.gather.specs.Run.{Scan, done}
+use Rattle.rules.specs.Scan.{Scan, done}
 use Rattle.gather.specs.Memory.{Mem}
 use Rattle.section_heads.specs.declared.How.{How}
 use Rattle.section_heads.specs.declared.Stand.{Stand}

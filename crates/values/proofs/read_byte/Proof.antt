@@ -11,8 +11,8 @@ returns c = search (byte-laws, needs)
 shared-slice-read-b : tie.Need-shared-slice-read-b
 shared-slice-read-b c = search (byte-laws, needs)
 
-wide-requires : tie.Need-wide-requires
-wide-requires c κs = search (byte-laws, needs)
+u64-of-byte-requires : tie.Need-u64-of-byte-requires
+u64-of-byte-requires c κs = search (byte-laws, needs)
 
 add-t11 : tie.Need-add-t11
 add-t11 c = search (byte-laws, needs)
@@ -25,4 +25,4 @@ returns-3 c = search (byte-laws, needs)
 
 pub read-byte-spec : {M : Type 1} → statement M
 read-byte-spec =
-    tie.close (tie.spec returns shared-slice-read-b wide-requires add-t11 returns-2 returns-3)
+    tie.close (tie.spec returns shared-slice-read-b u64-of-byte-requires add-t11 returns-2 returns-3)

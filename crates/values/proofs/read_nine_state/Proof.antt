@@ -14,8 +14,8 @@ shared-slice-read-b c = search (byte-laws, needs)
 std-logic-requires : tie.Need-std-logic-requires
 std-logic-requires c κs = search (byte-laws, needs)
 
-wide-requires : tie.Need-wide-requires
-wide-requires c κs = search (byte-laws, needs)
+u64-of-byte-requires : tie.Need-u64-of-byte-requires
+u64-of-byte-requires c κs = search (byte-laws, needs)
 
 add-t11 : tie.Need-add-t11
 add-t11 c = search (byte-laws, needs)
@@ -33,7 +33,7 @@ read-nine-state-spec =
     returns
     shared-slice-read-b
     std-logic-requires
-    wide-requires
+    u64-of-byte-requires
     add-t11
     returns-2
     returns-3)

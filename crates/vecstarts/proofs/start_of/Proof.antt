@@ -5,17 +5,17 @@ use borrow.Author.Needs.{needs}
 use Rattle.vecstarts.proofs.start_of.Statement.{statement}
 use Rattle.vecstarts.proofs.start_of.Tie as tie
 
-sub-widen : tie.Need-sub-widen
-sub-widen c = search (number-laws, needs)
+sub-usize-of-u32 : tie.Need-sub-usize-of-u32
+sub-usize-of-u32 c = search (number-laws, needs)
 
-mul-widen : tie.Need-mul-widen
-mul-widen c = search (number-laws, needs)
+mul-usize-of-u32 : tie.Need-mul-usize-of-u32
+mul-usize-of-u32 c = search (number-laws, needs)
 
-shared-slice-read-widen : tie.Need-shared-slice-read-widen
-shared-slice-read-widen c = search (number-laws, needs)
+shared-slice-read-usize-of-u32 : tie.Need-shared-slice-read-usize-of-u32
+shared-slice-read-usize-of-u32 c = search (number-laws, needs)
 
-widen-requires : tie.Need-widen-requires
-widen-requires c κs = search (number-laws, needs)
+usize-of-u32-requires : tie.Need-usize-of-u32-requires
+usize-of-u32-requires c κs = search (number-laws, needs)
 
 returns : tie.Need-returns
 returns c = search (number-laws, needs)
@@ -26,4 +26,4 @@ returns-2 c = search (number-laws, needs)
 pub start-of-spec : {M : Type 1} → statement M
 start-of-spec =
     tie.close
-    (tie.spec sub-widen mul-widen shared-slice-read-widen widen-requires returns returns-2)
+    (tie.spec sub-usize-of-u32 mul-usize-of-u32 shared-slice-read-usize-of-u32 usize-of-u32-requires returns returns-2)

@@ -5,21 +5,21 @@ use borrow.Author.Needs.{needs}
 use Rattle.vector_turns.proofs.vector_number.Statement.{statement}
 use Rattle.vector_turns.proofs.vector_number.Tie as tie
 
-sub-widen : tie.Need-sub-widen
-sub-widen c = search (number-laws, needs)
+sub-usize-of-u32 : tie.Need-sub-usize-of-u32
+sub-usize-of-u32 c = search (number-laws, needs)
 
-mul-widen : tie.Need-mul-widen
-mul-widen c = search (number-laws, needs)
+mul-usize-of-u32 : tie.Need-mul-usize-of-u32
+mul-usize-of-u32 c = search (number-laws, needs)
 
-shared-slice-read-widen : tie.Need-shared-slice-read-widen
-shared-slice-read-widen c = search (number-laws, needs)
+shared-slice-read-usize-of-u32 : tie.Need-shared-slice-read-usize-of-u32
+shared-slice-read-usize-of-u32 c = search (number-laws, needs)
 
-widen-requires : tie.Need-widen-requires
-widen-requires c κs = search (number-laws, needs)
+usize-of-u32-requires : tie.Need-usize-of-u32-requires
+usize-of-u32-requires c κs = search (number-laws, needs)
 
 returns : tie.Need-returns
 returns c = search (number-laws, needs)
 
 pub vector-number-spec : {M : Type 1} → statement M
 vector-number-spec =
-    tie.close (tie.spec sub-widen mul-widen shared-slice-read-widen widen-requires returns)
+    tie.close (tie.spec sub-usize-of-u32 mul-usize-of-u32 shared-slice-read-usize-of-u32 usize-of-u32-requires returns)

@@ -16,15 +16,15 @@ use Rattle.tables.specs.Lists.{Lists, nth, signals}
 use Rattle.values.specs.declared.Read.the-variants.{Value}
 use Rattle.values.specs.Value.{value}
 use Rattle.rules.specs.Gather.{time, write, stepEnd}
-use Rattle.gather.specs.Run.{Scan, say, done, and-then}
+use Rattle.rules.specs.Scan.{Scan, say, done, and-then}
 use Rattle.changes.specs.declared.Change.{Change}
 use Rattle.changes.specs.declared.Change.the-variants as change
 use Rattle.changes.specs.Changes.{nextChange, oneRecord, changes, scanChanges}
 use Rattle.changes.specs.Changes.Found.{Found, change-found}
 use Rattle.section_scan.specs.Sections.{nextTime, changeList, oneStep, steps, sections, scanSections}
 use Rattle.number_writer.specs.Ended.{Ended, wrote, refused}
-use Rattle.number_writer.specs.Shortest.{unsignedBytes, signedBytes, groups, fits, rest}
-use Rattle.number_writer.specs.Shortest.Laws.{bytes-some}
+use Rattle.leb128.specs.Shortest.{unsignedBytes, signedBytes, groups, fits, rest}
+use Rattle.leb128.specs.Shortest.Laws.{bytes-some}
 use Rattle.number_writer.specs.Little.{fixedBytes}
 use Rattle.number_writer.specs.Little.Laws.{length-fixedBytes}
 use Rattle.sections_writer.specs.declared.Pen.{Pen}

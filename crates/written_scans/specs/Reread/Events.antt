@@ -10,7 +10,8 @@ use Rattle.tables.specs.Lists.{Lists}
 use Rattle.rules.specs.Vector.{Write, put, rewritten, complete, Item, wrote, Vec, all, act, fires, clashes, stored, actsEarly}
 use Rattle.rules.specs.Gather.{Act, time, write, stepEnd, of, State, begin, width, bitWrite, toVector, toward, does}
 use Rattle.records.specs.Out.{Rooms, Out, empty, appendAll}
-use Rattle.gather.specs.Run.{gathers, ofVector, eventsOf, Scan, say, done, fault, out, fitted, acted, after, run, runAll}
+use Rattle.rules.specs.Scan.{Scan, say, done, fault}
+use Rattle.gather.specs.Run.{gathers, ofVector, eventsOf, out, fitted, acted, after, run, runAll}
 use Rattle.changes.specs.Changes.{scanChanges}
 use Rattle.section_scan.specs.Sections.{scanSections}
 use Rattle.number_writer.specs.Ended as ended

@@ -13,8 +13,7 @@ use Rattle.slices.specs.Choice.{cond-ind}
 use Rattle.number_writer.specs.Ended.{Ended, wrote, refused}
 use Rattle.tables.specs.Lists.{Lists, nth}
 use Rattle.rules.specs.Gather.{Act, time, write, stepEnd}
-use Rattle.gather.specs.Run.{Scan, say, done, fault}
-use Rattle.gather.specs.Run.Events.{Ends, Faults}
+use Rattle.rules.specs.Scan.{Scan, say, done, fault, Ends, Faults}
 use Rattle.section_scan.specs.Sections.{scanSections}
 use Rattle.changes.specs.declared.Change.{Change}
 use Rattle.changes.specs.declared.Change.the-variants as change

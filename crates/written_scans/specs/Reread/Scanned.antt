@@ -15,10 +15,10 @@ use Rattle.tables.specs.Lists.{Lists, nth, signals}
 use Rattle.values.specs.declared.Read.the-variants.{Value}
 use Rattle.values.specs.Value.{onRead, value}
 use Rattle.rules.specs.Gather.{time, write}
-use Rattle.gather.specs.Run.{Scan, say, done, and-then}
+use Rattle.rules.specs.Scan.{Scan, say, done, and-then}
 use Rattle.section_scan.specs.declared.NextTime.the-variants as times
 use Rattle.section_scan.specs.Sections.{field, endMark, nextId, oneChange, changeList, nextTime, oneStep, steps, cycle, oneSection, sections}
-use Rattle.number_writer.specs.Shortest.{unsignedBytes, signedBytes, groups, fits, rest}
+use Rattle.leb128.specs.Shortest.{unsignedBytes, signedBytes, groups, fits, rest}
 use Rattle.number_writer.specs.Little.{fixedBytes}
 use Rattle.number_writer.specs.Little.Laws.{length-fixedBytes}
 use Rattle.written_scans.specs.Reread.Stands.{Stands, stands-first, stands-next, stands-part, stands-inside, unsigned-is, signed-is, fixed-is}

@@ -16,7 +16,8 @@ use Rattle.slices.specs.Splice.{part}
 use Rattle.slices.specs.Splice.Laws.{length-part}
 use Rattle.numbers.specs.Fixed.{big, bigBytes}
 use Rattle.numbers.specs.Fixed.Laws.{Bytes, bigBytes-back, part-bytes}
-use Rattle.states.specs.Letters.{mapped}
+use Rattle.states.specs.Letters.{mapped, unmapped}
+use Rattle.states.specs.Letters.Laws.{unmapped-back}
 use Rattle.tables.specs.Lists.{Lists, nth, signals}
 use Rattle.values.specs.declared.Read.{Read}
 use Rattle.values.specs.declared.Read.the-variants as read
@@ -26,8 +27,7 @@ use Rattle.changes.specs.declared.Change.{Change}
 use Rattle.changes.specs.declared.Change.the-variants.{Time, Write, StepEnd, End, Bad}
 use Rattle.changes.specs.Changes.{recordLength, written, writeRecord, inOrder, changeRecord, nextChange}
 use Rattle.changes.specs.Changes.Whole.{Whole, Writes, whole-time, whole-write, length-none}
-use Rattle.read_back.specs.ReadBack.{unmapped, byteOf, writeOf, recordOf}
-use Rattle.read_back.specs.ReadBack.Laws.{unmapped-back}
+use Rattle.read_back.specs.ReadBack.{byteOf, writeOf, recordOf}
 
 abbrev pub Spelled : Lists → List ℕ → ℕ → Change → Type 0
 Spelled t s i (Time u j) = drop i s ≡ recordOf t (time u) ++ drop j s

@@ -18,8 +18,8 @@ use Rattle.values.specs.declared.Read.{Read}
 use Rattle.values.specs.declared.Read.the-variants.{Value, Bad}
 use Rattle.values.specs.Value.Laws.{value-integer, value-real}
 use Rattle.values.specs.Value.{number, unsigned, signed, byteUpTo, real, value}
-use Rattle.number_writer.specs.Shortest.{unsignedBytes, signedBytes}
-use Rattle.number_writer.specs.Shortest.Laws.{unsigned-read, signed-read}
+use Rattle.leb128.specs.Shortest.{unsignedBytes, signedBytes}
+use Rattle.leb128.specs.Shortest.Laws.{unsigned-read, signed-read}
 use Rattle.number_writer.specs.Little.{littleBytes, fixedBytes}
 use Rattle.number_writer.specs.Little.Laws.{length-littleBytes, length-fixedBytes, little-back, fixed-back}
 use Rattle.sections_writer.specs.Writer.{valueBytes}

@@ -12,7 +12,7 @@ use Rattle.slices.specs.Choice.{cond-ind}
 use Rattle.numbers.specs.Fixed.Laws.{Bytes}
 use Rattle.tables.specs.Lists.{Lists, nth}
 use Rattle.rules.specs.Gather.{Act, time, write, stepEnd}
-use Rattle.gather.specs.Run.{Scan, say, done, fault}
+use Rattle.rules.specs.Scan.{Scan, say, done, fault}
 use Rattle.changes.specs.declared.Change.{Change}
 use Rattle.changes.specs.declared.Change.the-variants as change
 use Rattle.changes.specs.Changes.{nextChange, oneRecord, changes, scanChanges}

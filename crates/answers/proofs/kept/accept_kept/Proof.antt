@@ -8,11 +8,11 @@ use Rattle.answers.proofs.kept.accept_kept.Tie as tie
 clear-past-requires : tie.Need-clear-past-requires
 clear-past-requires c κs = search (one-laws, needs)
 
-widen-requires : tie.Need-widen-requires
-widen-requires c κs = search (one-laws, needs)
+u64-of-usize-requires : tie.Need-u64-of-usize-requires
+u64-of-usize-requires c κs = search (one-laws, needs)
 
-widen-requires-2 : tie.Need-widen-requires-2
-widen-requires-2 c κs = search (one-laws, needs)
+u64-of-usize-requires-2 : tie.Need-u64-of-usize-requires-2
+u64-of-usize-requires-2 c κs = search (one-laws, needs)
 
 same-length : tie.Need-same-length
 same-length c = search (one-laws, needs)
@@ -22,4 +22,4 @@ returns c = search (one-laws, needs)
 
 pub accept-kept-spec : {M : Type 1} → statement M
 accept-kept-spec =
-    tie.close (tie.spec clear-past-requires widen-requires widen-requires-2 same-length returns)
+    tie.close (tie.spec clear-past-requires u64-of-usize-requires u64-of-usize-requires-2 same-length returns)

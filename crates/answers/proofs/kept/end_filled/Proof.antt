@@ -14,8 +14,8 @@ accept-kept-requires c κs = search (end-laws, needs)
 enum-known-w-2 : tie.Need-enum-known-w-2
 enum-known-w-2 c = search (end-laws, needs)
 
-widen-requires : tie.Need-widen-requires
-widen-requires c κs = search (end-laws, needs)
+u64-of-usize-requires : tie.Need-u64-of-usize-requires
+u64-of-usize-requires c κs = search (end-laws, needs)
 
 refuse-kept-requires : tie.Need-refuse-kept-requires
 refuse-kept-requires c κs = search (end-laws, needs)
@@ -39,7 +39,7 @@ end-filled-spec =
     enum-known-w
     accept-kept-requires
     enum-known-w-2
-    widen-requires
+    u64-of-usize-requires
     refuse-kept-requires
     same-length
     returns

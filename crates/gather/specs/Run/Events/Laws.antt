@@ -11,10 +11,11 @@ use Rattle.rules.specs.Gather.{Act, Happening, at, single, of, ends, State, hap
 use Rattle.rules.specs.Gather.Laws.{stateAfter}
 use Rattle.records.specs.Event.{time}
 use Rattle.records.specs.Out.{Rooms, Out, appendAll}
-use Rattle.gather.specs.Run.{alone, ofVector, eventsOf, Scan, say, done, fault, acts, went, out, fitted, acted, after, run}
+use Rattle.rules.specs.Scan.{Scan, say, done, fault, acts, Ends, Faults, Says}
+use Rattle.gather.specs.Run.{alone, ofVector, eventsOf, went, out, fitted, acted, after, run}
 use Rattle.gather.specs.Run.Rendered.{Rendered, Within}
 use Rattle.gather.specs.Run.Rendered.Laws.{append-none, append-both, all-rendered, first-misfit}
-use Rattle.gather.specs.Run.Events.{Ends, Faults, Says, made, later, Ran, Refusal}
+use Rattle.gather.specs.Run.Events.{made, later, Ran, Refusal}
 
 module _ (t : Lists) where
   events-append : (a b : List Happening) → eventsOf t (a ++ b) ≡ eventsOf t a ++ eventsOf t b

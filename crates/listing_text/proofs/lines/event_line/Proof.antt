@@ -14,11 +14,11 @@ time-line-requires c κs = search (event-laws, needs)
 enum-known-event-2 : tie.Need-enum-known-event-2
 enum-known-event-2 c = search (event-laws, needs)
 
-widen-requires : tie.Need-widen-requires
-widen-requires c κs = search (event-laws, needs)
+usize-of-u32-requires : tie.Need-usize-of-u32-requires
+usize-of-u32-requires c κs = search (event-laws, needs)
 
-widen-requires-2 : tie.Need-widen-requires-2
-widen-requires-2 c κs = search (event-laws, needs)
+usize-of-u32-requires-2 : tie.Need-usize-of-u32-requires-2
+usize-of-u32-requires-2 c κs = search (event-laws, needs)
 
 add-end : tie.Need-add-end
 add-end c = search (event-laws, needs)
@@ -66,8 +66,8 @@ event-line-spec =
     enum-known-event
     time-line-requires
     enum-known-event-2
-    widen-requires
-    widen-requires-2
+    usize-of-u32-requires
+    usize-of-u32-requires-2
     add-end
     sub-value-line
     part-value-line-start

@@ -5,8 +5,8 @@ use borrow.Author.Needs.{needs}
 use Rattle.listing_text.proofs.lines.hex_line.Statement.{statement}
 use Rattle.listing_text.proofs.lines.hex_line.Tie as tie
 
-wide-requires : tie.Need-wide-requires
-wide-requires c κs = search (hex-laws, needs)
+u64-of-u32-requires : tie.Need-u64-of-u32-requires
+u64-of-u32-requires c κs = search (hex-laws, needs)
 
 put-number-requires : tie.Need-put-number-requires
 put-number-requires c κs = search (hex-laws, needs)
@@ -36,7 +36,7 @@ pub hex-line-spec : {M : Type 1} → statement M
 hex-line-spec =
     tie.close
     (tie.spec
-    wide-requires
+    u64-of-u32-requires
     put-number-requires
     slice-aggregate-put
     put-requires

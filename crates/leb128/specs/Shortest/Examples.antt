@@ -7,7 +7,7 @@ use lib.ListN.{replicate}
 use lib.IntN.{pos, negℤ}
 use mir.Val.{ofZ}
 use mir.Syntax.{w64}
-use Rattle.number_writer.specs.Shortest.{fits, rest, groups, unsignedBytes, signedBytes}
+use Rattle.leb128.specs.Shortest.{fits, rest, groups, unsignedBytes, signedBytes}
 
 -- the bytes of a number, and of a number below 0
 abbrev bytesOf : ℕ → List ℕ

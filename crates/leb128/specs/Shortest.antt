@@ -6,7 +6,6 @@ use mathlib.Core.List.{List, [], _∷_}
 use lib.Dec.{ltb, leb}
 pub mod Groups
 pub mod Laws
-pub mod Code
 pub mod Examples
 
 -- what is left lies within seven bits: below 128, or, of a signed number, from -64 to 63, so that bit 6 is the sign

@@ -10,8 +10,8 @@ use borrow.Author.Tests.{lt-ltb, le-ltb, ltb-true, ltb-false, leb-true, leb-fals
 use lib.ListN.{length, getD}
 use lib.Dec.{ltb, leb}
 use Rattle.slices.specs.Choice.{cond-ind}
 use Rattle.leb128.specs.Leb128.{value, goesOn}
-use Rattle.number_writer.specs.Shortest.{fits, rest, groups}
+use Rattle.leb128.specs.Shortest.{fits, rest, groups}
 
 -- ---- any number, signed or not
 

@@ -1,4 +1,4 @@
--- What the proofs of `written` search.
+-- What the proofs of `number_writer` search.
 -- Assumes nothing.
 use mathlib.Core.Path.{_≡_, refl, sym, ap, _∙_}
 use Prim.Native.Nat.{ℕ, zero, suc, _+_, _-_, _/_, _%_, _≤_, _<_}
@@ -13,8 +13,8 @@ use Rattle.slices.specs.Splice.Laws.{splice-nil, splice-snoc, length-part, part
 use Rattle.slices.specs.Field.{fieldOf, field-none, field-found, field-past}
 use Rattle.slices.specs.declared.Field.{Field}
 use Rattle.number_writer.specs.Put.{afterPut}
-use Rattle.number_writer.specs.Shortest.{fits, rest, groups, lebBytes}
-use Rattle.number_writer.specs.Shortest.Groups.{groups-most}
+use Rattle.leb128.specs.Shortest.{fits, rest, groups, lebBytes}
+use Rattle.leb128.specs.Shortest.Groups.{groups-most}
 
 -- ---- the seven bits and what is left
 

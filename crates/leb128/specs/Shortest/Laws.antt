@@ -13,12 +13,12 @@ use lib.ListN.{length, getD, take, drop, length-append, length-take, List·getD-
 use lib.Seq.{take-at, drop-at, take-all}
 use lib.Dec.{eqb}
 use Rattle.slices.specs.Choice.{cond-ind, le-or-lt}
 use Rattle.leb128.specs.Leb128.{value, goesOn, lebOf, unsignedTenth, signedTenth, signedValue, signedBits, readUnsigned, readSigned}
 use Rattle.leb128.specs.Leb128.Laws.{value-next, value-below, count-taken, last-taken, leb-ind}
 use Rattle.leb128.specs.declared.Leb.{Leb}
 use Rattle.leb128.specs.declared.Leb.the-variants.{Value, Short, Large}
-use Rattle.number_writer.specs.Shortest.{lebBytes, unsignedBytes, signedBytes}
-use Rattle.number_writer.specs.Shortest.Groups.{groups-some, groups-most, goes-on, lastOf, last-below, unsigned-value, unsigned-short, signed-low, signed-low-short, signed-high, signed-high-short}
+use Rattle.leb128.specs.Shortest.{lebBytes, unsignedBytes, signedBytes}
+use Rattle.leb128.specs.Shortest.Groups.{groups-some, groups-most, goes-on, lastOf, last-below, unsigned-value, unsigned-short, signed-low, signed-low-short, signed-high, signed-high-short}
 
 -- ---- at most ten bytes
 

@@ -3,11 +3,10 @@
 use Prim.Native.Nat.{ℕ, _<_}
 use mathlib.Core.Path.{_≡_, refl, sym, ap, subst}
 use mathlib.Core.Bool.{Bool, true, false}
 use Rattle.rules.specs.Gather.{time, write, stepEnd}
 use Rattle.rules.specs.Steps.{Steps}
 use Rattle.rules.specs.Once.{Rising}
-use Rattle.gather.specs.Run.{Scan, say, done, fault, acts, and-then}
-use Rattle.gather.specs.Run.Events.{Ends, Faults}
+use Rattle.rules.specs.Scan.{Scan, say, done, fault, acts, and-then, Ends, Faults}
 
 module _ (follows : ℕ → ℕ → Type 0) (endsAt refuses : ℕ → Type 0) where
   -- from inside a step (true) or from between steps (false), where n was the last id written in the step, 0 for none
