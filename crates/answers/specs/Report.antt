@@ -2,7 +2,7 @@
 -- Assumes nothing.
 use mathlib.Core.Path.{_≡_}
 use Prim.Native.Nat.{ℕ}
-use Rattle.records.specs.declared.Counts.{Counts}
+use Rattle.event_rooms.specs.declared.Counts.{Counts}
 use Rattle.answers.specs.declared.Answer.{Answer}
 
 abbrev pub report : ℕ → Counts → Answer

@@ -1,7 +1,7 @@
 // The answer of a call, and what every call ends with.
 pub mod kept;
 
-use records::Counts;
+use event_rooms::Counts;
 use slices::clear_bytes;
 use slices::u64_of_usize;
 ghost use mathlib.Core.Path.{_≡_};

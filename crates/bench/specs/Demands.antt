@@ -2,7 +2,6 @@
 -- That the code gives just `bench` is the promise of the public call.
 -- Assumes nothing.
 use mathlib.Core.Path.{_≡_, ap, subst}
-use mathlib.Core.Logic.{_≢_, _⊎_, inl, inr}
 use Prim.Native.Nat.{ℕ, _≤_}
 use mathlib.Core.Bool.{true, false, _&&_, and-eq-true-iff}
 use mathlib.Core.List.{List}
@@ -16,12 +15,12 @@ use Rattle.number_writer.specs.Ended.{Ended, wrote}
 use Rattle.number_writer.specs.Ended as ended
 use Rattle.step_ends.specs.Steps.{Steps, unseen, stepEnds, count}
 use Rattle.sessions.specs.Places.{empty}
-use Rattle.fragments.specs.Output.{Out, recordsIn}
+use Rattle.fragment_records.specs.Output.{Out, recordsIn}
 use Rattle.fragments.specs.Counting.{countFragments}
-use Rattle.fragments.specs.Theorems.{Accounts, Why, Closes, Good, benches, Every}
+use Rattle.fragments.specs.Theorems.{Accounts, Closes, Good, benches, Every}
 use Rattle.fragments.specs.Theorems.Proofs.{accounts, reads, closes, good-always}
 use Rattle.answers.specs.Outcome.{Outcome, accepted, refused, answer, eventBytes, valueBytes, LeftKept, leavesKept}
-use Rattle.answers.specs.Outcome.Laws.{Allowed, padded-front, answer-events, answer-values, allowed-values, acceptance-is, refusal-is}
+use Rattle.answers.specs.Outcome.Laws.{Allowed, padded-front, answer-events, answer-values, allowed-values, acceptance-is}
 use Rattle.entries.specs.Demands.{Answers, Output, answers-of, events-of}
 use Rattle.answers.specs.Filled.{filled}
 use Rattle.bench.specs.Bench.{limitsOf, apart, named, benched, bench}
@@ -45,11 +44,7 @@ module _ (events values : List ℕ) (session strobe close room : ℕ) where
     -- "34 two references equal (place 0, after 1)"
     pub equal : limitsOf events values room ≡ true → apart session strobe close ≡ false → (x .answer .number ≡ 34) × (x .answer .place ≡ 0)
 
-  -- why a call is refused
-  abbrev pub Reason : (n p : ℕ) → Type 0
-  Reason n p =
-      ((limitsOf events values room ≡ false) × (n ≡ 1) × (p ≡ 0)) ⊎ (((apart session strobe close ≡ false) × (n ≡ 34) × (p ≡ 0)) ⊎ Why n p endsOf)
-
+  -- when it is accepted and where it is refused: `call_pages` BenchPage
   pub record BenchDemand (x : LeftKept) : Type 0 where
     -- "At each step's end where the strobe stands at 1 and stood at 0 at the previous step's end .., one fragment is counted to the session value then shown";
     -- "Where close stands at 1 at step end the shown session is dropped after any counting, and its place is used again": the definition's bytes
@@ -65,8 +60,6 @@ module _ (events values : List ℕ) (session strobe close room : ℕ) where
     pub read : x .answer .number ≡ 0 → x .answer .read ≡ length events
     -- .. steps are then time records read": each opens a step, and each step ends
     pub steps : x .answer .number ≡ 0 → x .answer .steps ≡ count endsOf
-    -- "Refusals: 34 .. an event of the three that isn't two-state .. (after 20)" at the record; "21 .. at the record ending the step or the input's end"; and 01's
-    pub refuses : x .answer .number ≢ 0 → Reason (x .answer .number) (x .answer .place)
 
   -- ---- their proofs
 
@@ -111,11 +104,6 @@ module _ (events values : List ℕ) (session strobe close room : ℕ) where
   filled-accepted (wrote j bs m) i es vs n q = let a : j ≡ i = cc in let b : bs ≡ es = cc in let d : m ≡ n = cc in rw (a, b, d)
   filled-accepted (ended.refused m p) i es vs n q = let z : _≡_ {A = ℕ} 0 1 = cc in absurd (omega arith)
 
-  filled-refusal : (e : Ended) (n p : ℕ) → filled e ≡ refused n p → e ≡ ended.refused n p
-  unfolding filled
-  filled-refusal (wrote j bs m) n p q = let z : _≡_ {A = ℕ} 0 1 = cc in absurd (omega arith)
-  filled-refusal (ended.refused m r) n p q = let a : m ≡ n = cc in let b : r ≡ p = cc in rw (a, b)
-
   came : (i : ℕ) (es vs : List ℕ) (n : ℕ) → result ≡ accepted i es vs n → stream ≡ wrote i es n
   unfolding benched
   came i es vs n =
@@ -133,15 +121,6 @@ module _ (events values : List ℕ) (session strobe close room : ℕ) where
   unfolding benched
   accepted-small i es vs n =
       cond-ind (limitsOf events values room) _ _ (λ o. o ≡ accepted i es vs n → length events ≤ 1073741823) (λ l q. small l) (λ l q. let z : _≡_ {A = ℕ} 0 1 = cc in absurd (omega arith))
-
-  reason : (n p : ℕ) → result ≡ refused n p → Reason n p
-  unfolding benched
-  reason n p =
-      cond-ind (limitsOf events values room) _ _ (λ o. o ≡ refused n p → Reason n p)
-      (λ l. cond-ind (apart session strobe close) _ _ (λ o. o ≡ refused n p → Reason n p)
-      (λ a q. inr (inr (subst (Closes (length events) room endsOf) (filled-refusal stream n p q) (closes (named session strobe close) events values room) .0)))
-      (λ a q. inr (inl (a, (cc), (cc)))))
-      (λ l q. inl (l, (cc), (cc)))
 
   reported-is : reported (leavesKept room result) ≡ eventBytes result
   unfolding leavesKept
@@ -174,5 +153,4 @@ module _ (events values : List ℕ) (session strobe close room : ℕ) where
     live = good-always (named session strobe close) events values room;
     read = λ h. closed h .0;
     steps = λ h. closed h .2;
-    refuses = λ h. reason (answer result .number) (answer result .place) (refusal-is result h);
   }

@@ -7,9 +7,9 @@ use mathlib.Core.List.{List}
 use lib.ListN.{length}
 use Rattle.tables.specs.Lists.{Lists}
 use Rattle.rules.specs.Gather.{State}
-use Rattle.records.specs.declared.Put.{Put}
-use Rattle.records.specs.declared.Put.the-variants as put
-use Rattle.records.specs.Out.{Rooms, Out}
+use Rattle.event_rooms.specs.declared.Put.{Put}
+use Rattle.event_rooms.specs.declared.Put.the-variants as put
+use Rattle.event_rooms.specs.Out.{Rooms, Out}
 use Rattle.rules.specs.Scan.{Scan, done}
 use Rattle.gather.specs.Memory.{Holds, Mem, Tabled}
 use Rattle.section_heads.specs.declared.Said.{Said}

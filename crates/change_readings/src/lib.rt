@@ -1,5 +1,7 @@
 // Change reading: what the records say, one at a time, goes through the gatherer, as the items of sections do.
 use changes::record_item;
+use event_rooms::Put;
+use event_rooms::time_change;
 use gather::Gathered;
 use gather::Part;
 use item_acts::Acted;
@@ -8,8 +10,6 @@ use item_acts::act_item;
 use item_turns::Bytes;
 use item_turns::KINDS;
 use item_turns::Numbers;
-use records::Put;
-use records::time_change;
 use section_heads::Said;
 use vector_turns::next_step;
 ghost use mathlib.Core.Path.{_≡_};

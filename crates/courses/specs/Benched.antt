@@ -12,8 +12,8 @@ use Rattle.step_ends.specs.Steps.{Steps, unseen, stepEnds, rose}
 use Rattle.step_ends.specs.Steps as steps
 use Rattle.sessions.specs.declared.Bench.{Bench}
 use Rattle.sessions.specs.Places.{placeOf, placeFor, counted, dropped, empty}
-use Rattle.fragments.specs.Output.{fragment, outBytes, heldOf}
-use Rattle.fragments.specs.Output as output
+use Rattle.fragment_records.specs.Output.{fragment, outBytes, heldOf}
+use Rattle.fragment_records.specs.Output as output
 use Rattle.fragments.specs.Counting.{closes, closedOf}
 use Rattle.courses.specs.Course.{Course, adds, done, fault}
 pub mod Laws

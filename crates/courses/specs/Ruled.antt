@@ -6,9 +6,9 @@ use mathlib.Core.Bool.{Bool, true, false, cond}
 use mathlib.Core.List.{List}
 use lib.ListN.{length}
 use Rattle.slices.specs.Splice.{part}
-use Rattle.records.specs.declared.Next.{Next}
-use Rattle.records.specs.declared.Next.the-variants.{Event, End, Bad}
-use Rattle.records.specs.Stream.{nextEvent}
+use Rattle.event_streams.specs.declared.Next.{Next}
+use Rattle.event_streams.specs.declared.Next.the-variants.{Event, End, Bad}
+use Rattle.event_streams.specs.Stream.{nextEvent}
 use Rattle.encoder.specs.declared.Clock.{Clock}
 use Rattle.encoder.specs.Rule.{keeps, ticks, times}
 use Rattle.encoder.specs.Rule.Keeping.{unset}

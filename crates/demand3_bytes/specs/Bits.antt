@@ -21,7 +21,7 @@ use Rattle.rules.specs.Vector.{Cause, shown}
 use Rattle.rules.specs.Gather.{Happening, of}
 use Rattle.records.specs.declared.Record.the-variants.{Value}
 use Rattle.records.specs.Event.{recordBytes, recordOf, eventValue}
-use Rattle.records.specs.Stream.{recordAt}
+use Rattle.event_streams.specs.Stream.{recordAt}
 use Rattle.gather.specs.Run.{eventsOf, ofVector}
 use Rattle.gather.specs.Run.Rendered.{valuesOf}
 use Rattle.demand3_bytes.specs.Statements.{labelOf, bitIn, shows, stateIn, Shows}

@@ -15,7 +15,7 @@ use Rattle.slices.specs.Splice.{part}
 use Rattle.rules.specs.Gather.{Tables, Act, time, write, stepEnd}
 use Rattle.records.specs.declared.Record.the-variants.{Time, Value}
 use Rattle.records.specs.Event.{recordBytes}
-use Rattle.records.specs.Stream.{recordAt}
+use Rattle.event_streams.specs.Stream.{recordAt}
 use Rattle.demand3_bytes.specs.Statements.{Labelled, bitIn, shows, Moment, said, made, saidIn, madeIn, bitOf, writesBit, Without, Demand3}
 
 -- ---- places in an order

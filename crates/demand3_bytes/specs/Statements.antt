@@ -19,7 +19,7 @@ use Rattle.records.specs.declared.Record.{Record}
 use Rattle.records.specs.declared.Record.the-variants.{Time, Value, Real}
 use Rattle.records.specs.Event.{Event, value, real, recordBytes}
 use Rattle.records.specs.Event as events
-use Rattle.records.specs.Stream.{eventLength, recordAt, isTime}
+use Rattle.event_streams.specs.Stream.{eventLength, recordAt, isTime}
 use Rattle.gather.specs.Run.{gathers}
 use Rattle.answers.specs.Outcome.{Left}
 

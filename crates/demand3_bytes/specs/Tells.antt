@@ -19,7 +19,7 @@ use Rattle.rules.specs.Demand3 as whole
 use Rattle.records.specs.declared.Record.the-variants.{Time}
 use Rattle.records.specs.Event.{Event, recordOf, recordBytes, eventValue}
 use Rattle.records.specs.Event as events
-use Rattle.records.specs.Stream.{recordAt, isTime}
+use Rattle.event_streams.specs.Stream.{recordAt, isTime}
 use Rattle.gather.specs.Run.{gathers, eventsOf, ofVector}
 use Rattle.gather.specs.Run.Rendered.{valuesOf}
 use Rattle.demand3_bytes.specs.Statements.{Labelled, labelOf, stateIn, partOf, Tells}

@@ -20,8 +20,8 @@ use Rattle.rules.specs.Gather.{Act, time, write, stepEnd, at, State, endAll, to
 use Rattle.records.specs.Event.{Event, value, real, recordOf, recordBytes, eventValue}
 use Rattle.records.specs.Event as events
 use Rattle.records.specs.Event.Laws.{length-time, length-value, length-real}
-use Rattle.records.specs.Out.{Rooms, Out, empty, fits, appended, append, appendAll}
-use Rattle.records.specs.Out.Laws.{length-record}
+use Rattle.event_rooms.specs.Out.{Rooms, Out, empty, fits, appended, append, appendAll}
+use Rattle.event_rooms.specs.Out.Laws.{length-record}
 use Rattle.rules.specs.Scan.{Scan, say, done, fault, acts, Ends}
 use Rattle.gather.specs.Run.{gathers, alone, eventsOf, went, fitted, acted, after, run}
 use Rattle.gather.specs.Run.Rendered.{valuesOf}

@@ -9,7 +9,7 @@ use lib.Seq.{take-at, drop-at}
 use Rattle.states.specs.declared.States.the-variants.{Two, Nine}
 use Rattle.records.specs.Event.{Event, time, value, real, recordOf, recordBytes, eventValue}
 use Rattle.records.specs.Event.Laws.{length-time, length-value, length-real}
-use Rattle.records.specs.Stream.{eventLength}
+use Rattle.event_streams.specs.Stream.{eventLength}
 use Rattle.gather.specs.Run.Rendered.{rendered}
 use Rattle.demand3_bytes.specs.Statements.{Labelled, joined, labels, Whole, RecordsOf}
 use Rattle.demand3_bytes.specs.Trace.{labelled, labelledFrom, joined-rendered, labels-labelled}

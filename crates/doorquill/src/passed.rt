@@ -1,6 +1,6 @@
 // Section reading, over tables that passed their checks.
 use answers::Answer;
-use checks::total_bytes;
+use event_rooms::Counts;
 use gather::Gathered;
 use gather::Part;
 use item_turns::Bytes;
@@ -15,7 +15,7 @@ use item_turns::VECS;
 use reading_ends::finish;
 use reading_ends::start;
 use readings::read_sections;
-use records::Counts;
+use room_needs::total_bytes;
 use section_heads::How;
 ghost use mathlib.Core.Path.{_≡_};
 ghost use lib.ListN.{length};

@@ -1,7 +1,7 @@
 // Change reading, over tables that passed their checks.
 use answers::Answer;
 use change_readings::read_changes;
-use checks::total_bytes;
+use event_rooms::Counts;
 use gather::Gathered;
 use gather::Part;
 use item_turns::Bytes;
@@ -15,7 +15,7 @@ use item_turns::VEC_REFS;
 use item_turns::VECS;
 use reading_ends::finish;
 use reading_ends::start;
-use records::Counts;
+use room_needs::total_bytes;
 ghost use mathlib.Core.Path.{_≡_};
 ghost use lib.ListN.{length};
 ghost use Rattle.tables.specs.Layout.{layoutOf, totalBytes};

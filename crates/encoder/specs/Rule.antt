@@ -8,9 +8,9 @@ use lib.Dec.{ltb, leb, eqb}
 use Rattle.slices.specs.Splice.{part}
 use Rattle.records.specs.declared.Record.{Record}
 use Rattle.records.specs.declared.Record.the-variants.{Time, Value, Real}
-use Rattle.records.specs.declared.Next.{Next}
-use Rattle.records.specs.declared.Next.the-variants.{Event, End, Bad}
-use Rattle.records.specs.Stream.{nextEvent}
+use Rattle.event_streams.specs.declared.Next.{Next}
+use Rattle.event_streams.specs.declared.Next.the-variants.{Event, End, Bad}
+use Rattle.event_streams.specs.Stream.{nextEvent}
 use Rattle.encoder.specs.declared.Clock.{Clock}
 pub mod Promise
 pub mod Code

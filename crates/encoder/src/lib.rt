@@ -1,8 +1,8 @@
 // The time rule: `Encoder::time_change` and what it lets through, over an event stream.
+use event_streams::Next;
+use event_streams::next_event;
 use number_writer::Written;
-use records::Next;
 use records::Record;
-use records::next_event;
 use slices::copy_part;
 ghost use mathlib.Core.Path.{_≡_};
 ghost use Prim.Native.Nat.{_≤_};

@@ -19,7 +19,7 @@ use Rattle.tables.specs.Good.Laws.{limited, good}
 use Rattle.tables.specs.declared.Check.{Check}
 use Rattle.tables.specs.declared.Check.the-variants.{Passed, Refused}
 use Rattle.rules.specs.Gather.{begin}
-use Rattle.records.specs.Out.{empty}
+use Rattle.event_rooms.specs.Out.{empty}
 use Rattle.vecstarts.specs.Numbers.{Shapes, filled}
 use Rattle.rules.specs.Scan.{Scan}
 use Rattle.gather.specs.Run.{runAll, gathers}
@@ -33,7 +33,8 @@ use Rattle.gather.specs.declared.Part.{Part}
 use Rattle.gather.specs.declared.Part.the-variants as part
 use Rattle.answers.specs.Outcome.{Outcome, refused, Left, Lent, leaves}
 use Rattle.entries.specs.Entries.{outcome, checked, reads, readSections, readChanges}
-use Rattle.reading_ends.specs.Reading.{lentOf, Used, endedAt, Within, Finish, Ended}
+use Rattle.left_buffers.specs.Left.{lentOf, Used}
+use Rattle.reading_ends.specs.Reading.{endedAt, Within, Finish, Ended}
 
 -- ---- zeros, and a part of them lent
 

@@ -18,7 +18,7 @@ use Rattle.rules.specs.Gather.{Good, begin}
 use Rattle.rules.specs.Steps.Owned.{historyOf}
 use Rattle.rules.specs.Once.{Single, rising-single}
 use Rattle.rules.specs.Demand3.{Demand3, demand3}
-use Rattle.records.specs.Out.{Out, empty, appendAll}
+use Rattle.event_rooms.specs.Out.{Out, empty, appendAll}
 use Rattle.rules.specs.Scan.{Scan, acts, Ends}
 use Rattle.gather.specs.Run.{gathers}
 use Rattle.gather.specs.Run.Rendered.{rendered, valuesOf, stepsOf}
@@ -99,7 +99,7 @@ pub record Demand2 (t : Lists) (input : ℕ) (l : Lent) (sc : Scan) (x : Left) :
   -- "16: next event doesn't fit event or value room: next unread byte"
   pub full : x .answer .number ≡ 16 → Overflows t (roomsOf l) sc (begin (gathers t)) empty (x .answer .place)
 
--- "the time rule keeps what its Encoder would keep"
+-- "the time rule keeps what its Encoder would keep"; when it is accepted and where it is refused: `call_pages` RulePage
 pub record RuleDemand2 (s : List ℕ) (values room : ℕ) (x : LeftKept) : Type 0 where
   -- of the records of its input, all of it, ..
   pub whole : x .answer .number ≡ 0 → (bytesOf (records s) ≡ s) × (x .answer .read ≡ length s)
@@ -108,7 +108,6 @@ pub record RuleDemand2 (s : List ℕ) (values room : ℕ) (x : LeftKept) : Type 
   pub sublist : Sublistᴰ (keptOf unset (records s)) (records s)
   -- .. and "steps are times kept"
   pub steps : x .answer .number ≡ 0 → x .answer .steps ≡ keeping.timesOf (keptOf unset (records s))
-  pub refuses : x .answer .number ≢ 0 → ruling.Why s values room (x .answer .number) (x .answer .place)
 
 -- ---- their proofs
 
@@ -237,5 +236,4 @@ module _ (s : List ℕ) (values room : ℕ) where
     kept = λ h. padded-front room (eventBytes rule) (answer rule .events) (answer-events rule) ∙ (kept h .events ∙ kept h .by-rule .events);
     sublist = kept-part unset (records s);
     steps = λ h. kept h .steps ∙ kept h .by-rule .steps;
-    refuses = ruling.ruling-refused s values room;
   }

@@ -15,7 +15,8 @@ use Rattle.gather.specs.Begin.{roomsOf}
 use Rattle.gather.specs.declared.Part.{Part}
 use Rattle.answers.specs.declared.Answer.{Answer}
 use Rattle.answers.specs.Outcome.{Outcome, Left, Lent, LeftKept}
-use Rattle.reading_ends.specs.Reading.{leftOf, lentOf, Ended}
+use Rattle.left_buffers.specs.Left.{leftOf, lentOf}
+use Rattle.reading_ends.specs.Reading.{Ended}
 use Rattle.entries.specs.Entries.{outcome}
 
 abbrev pub Slice : Type 0

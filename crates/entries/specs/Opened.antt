@@ -13,8 +13,8 @@ use Rattle.tables.specs.Checks as checking
 use Rattle.rules.specs.Vector as vector
 use Rattle.rules.specs.Gather as gatherer
 use Rattle.records.specs.Event as event
-use Rattle.records.specs.Out as outs
-use Rattle.records.specs.Stream as stream
+use Rattle.event_rooms.specs.Out as outs
+use Rattle.event_streams.specs.Stream as stream
 use Rattle.values.specs.Value as values
 use Rattle.rules.specs.Scan as scan
 use Rattle.gather.specs.Run as running

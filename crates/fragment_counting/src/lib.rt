@@ -1,10 +1,10 @@
 // Fragments counted over an event stream, step by step, and what is held at its end.
+use fragment_records::held_bytes;
+use fragment_steps::end_step;
 use fragments::Going;
 use fragments::Progress;
 use fragments::Put;
 use fragments::Turn;
-use fragments::end_step;
-use fragments::held_bytes;
 use number_writer::Written;
 use number_writer::put_bytes;
 use sessions::Bench;
@@ -17,7 +17,7 @@ ghost use Prim.Native.Nat.{_<_, _≤_};
 ghost use lib.ListN.{length};
 ghost use Rattle.number_writer.specs.Ended.{Fills};
 ghost use Rattle.number_writer.specs.Put.{Puts};
-ghost use Rattle.fragments.specs.Output.{bytesOf, heldAt, heldOf};
+ghost use Rattle.fragment_records.specs.Output.{bytesOf, heldAt, heldOf};
 ghost use Rattle.fragments.specs.Counting.{countFragments};
 ghost use Rattle.fragments.specs.Counting.Turn.{Finishes, Asks, Lasts, Stepping, Goes, Turns};
 

@@ -11,7 +11,7 @@ use Rattle.step_ends.specs.declared.Watch.{Watch}
 use Rattle.step_ends.specs.Steps.{Steps, step, done, refused, unseen, stepEnds, rose}
 use Rattle.sessions.specs.declared.Bench.{Bench}
 use Rattle.sessions.specs.Places.{placeOf, placeFor, counted, dropped, empty}
-use Rattle.fragments.specs.Output.{Out, fragment, closed, outBytes, bytesOf, heldOf}
+use Rattle.fragment_records.specs.Output.{Out, fragment, closed, outBytes, bytesOf, heldOf}
 pub mod Laws
 pub mod Step
 pub mod Turn

@@ -12,7 +12,7 @@ use Rattle.step_ends.specs.Steps.{Steps, step, done, refused, unseen, rose, ris
 use Rattle.sessions.specs.declared.Bench.{Bench}
 use Rattle.sessions.specs.Places.Laws.{Whole, Distinct}
 use Rattle.sessions.specs.Places.Laws.Tally.{onto, without}
-use Rattle.fragments.specs.Output.{Out, fragment, closed, held, bytesOf, fragmentsOf, countsIn}
+use Rattle.fragment_records.specs.Output.{Out, fragment, closed, held, bytesOf, fragmentsOf, countsIn}
 use Rattle.fragments.specs.Counting.{Does, went, stops, stepEnd}
 pub mod Proofs
 

@@ -20,8 +20,8 @@ use Rattle.tables.specs.Good.{Good}
 use Rattle.tables.specs.Good.Laws.{limited, good, in-range}
 use Rattle.rules.specs.Gather as rules
 use Rattle.rules.specs.Gather.{State, begin}
-use Rattle.records.specs.Out.{Rooms, Out, empty}
-use Rattle.records.specs.Out.Laws.{Written}
+use Rattle.event_rooms.specs.Out.{Rooms, Out, empty}
+use Rattle.event_rooms.specs.Out.Laws.{Written}
 use Rattle.vecstarts.specs.Numbers.{layoutFrom, Shapes, filled}
 use Rattle.vecstarts.specs.Numbers.Laws.{layout-is}
 use Rattle.vecbuffer.specs.Stands.Vectors.{getD-clear}

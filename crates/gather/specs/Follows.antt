@@ -4,7 +4,7 @@ use mathlib.Core.Path.{_≡_}
 use mathlib.Core.Option.{Option, none, some}
 use Rattle.tables.specs.Lists.{Lists}
 use Rattle.rules.specs.Gather.{Act, State}
-use Rattle.records.specs.Out.{Rooms, Out}
+use Rattle.event_rooms.specs.Out.{Rooms, Out}
 use Rattle.rules.specs.Scan.{Scan, say}
 use Rattle.gather.specs.Run.{Went, went, out, acted, after, run}
 use Rattle.gather.specs.Memory.{Mem, Tabled, HoldsAt, Holds}

@@ -13,7 +13,7 @@ use Rattle.tables.specs.Layout.{layoutOf}
 use Rattle.rules.specs.Vector.{Write, Vec, all, clashes, actsEarly}
 use Rattle.rules.specs.Gather.{State}
 use Rattle.records.specs.Event.{Event, value}
-use Rattle.records.specs.Out.{Rooms, Out, appendAll}
+use Rattle.event_rooms.specs.Out.{Rooms, Out, appendAll}
 use Rattle.vecmarks.specs.Info.{infoAt}
 use Rattle.vecbuffer.specs.Stands.{flagsAt, storing, clearing}
 use Rattle.gather.specs.Memory.{Mem, memOf, HoldsAt}

@@ -9,8 +9,8 @@ use Rattle.tables.specs.Layout.{Layout, layoutOf, totalBytes}
 use Rattle.tables.specs.Good as good
 use Rattle.tables.specs.Good.{Ranged, Signals, Named}
 use Rattle.rules.specs.Gather.{State}
-use Rattle.records.specs.Out.{Rooms, Out}
-use Rattle.records.specs.Out.Laws.{Written}
+use Rattle.event_rooms.specs.Out.{Rooms, Out}
+use Rattle.event_rooms.specs.Out.Laws.{Written}
 use Rattle.vecbuffer.specs.Stands.{Stands}
 use Rattle.gather.specs.declared.Gathered.{Gathered}
 pub mod Laws

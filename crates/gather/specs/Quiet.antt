@@ -12,7 +12,7 @@ use Rattle.tables.specs.Lists.{Lists, nth}
 use Rattle.tables.specs.Layout.{layoutOf}
 use Rattle.rules.specs.Vector.{all, actsEarly, stored}
 use Rattle.rules.specs.Gather.{State, with, width, write}
-use Rattle.records.specs.Out.{Rooms, Out, appendAll}
+use Rattle.event_rooms.specs.Out.{Rooms, Out, appendAll}
 use Rattle.vecmarks.specs.Info.{infoAt, isMarked, isSecond, isQuiet, withBit}
 use Rattle.vecbuffer.specs.Stands.{flagsAt, storing}
 use Rattle.vecbuffer.specs.Stands.Vectors.{stored-marks}

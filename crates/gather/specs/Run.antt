@@ -15,7 +15,7 @@ use Rattle.rules.specs.Vector.{Item, began, wrote, shown, over, actsEarly}
 use Rattle.rules.specs.Gather.{Tables, Act, Happening, at, single, of, ends, State, begin, does}
 use Rattle.rules.specs.Scan.{Scan, say, done, fault}
 use Rattle.records.specs.Event.{Event, time, value, real}
-use Rattle.records.specs.Out.{Rooms, Out, empty, appendAll}
+use Rattle.event_rooms.specs.Out.{Rooms, Out, empty, appendAll}
 pub mod Laws
 pub mod Rendered
 pub mod Events

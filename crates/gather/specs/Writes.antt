@@ -15,9 +15,9 @@ use Rattle.tables.specs.Checks.Laws.{nth-less}
 use Rattle.tables.specs.Good.{Bit}
 use Rattle.values.specs.Value.{mostOf, Suits}
 use Rattle.rules.specs.Gather.{width, write}
-use Rattle.records.specs.declared.Counts.{Counts}
+use Rattle.event_rooms.specs.declared.Counts.{Counts}
 use Rattle.records.specs.Event.{value}
-use Rattle.records.specs.Out.Laws.{EventsRoom, ValuesRoom}
+use Rattle.event_rooms.specs.Out.Laws.{EventsRoom, ValuesRoom}
 use Rattle.vecmarks.specs.declared.VecBufferInfo.{VecBufferInfo}
 use Rattle.vecmarks.specs.Info.{infoAt}
 use Rattle.vecstarts.specs.Numbers.{layoutFrom, Shapes, Started}

@@ -1,5 +1,5 @@
 // The gatherer over the lent memory: what it keeps between parts of the input, and a vector looked up.
-use records::Counts;
+use event_rooms::Counts;
 use vecmarks::VecBufferInfo;
 use vecstarts::flags_of;
 use vecstarts::info_of;

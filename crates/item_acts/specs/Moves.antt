@@ -7,10 +7,10 @@ use mathlib.Core.List.{List, [], _∷_}
 use Rattle.tables.specs.Lists.{Lists}
 use Rattle.rules.specs.Gather.{Act, time, does}
 use Rattle.records.specs.Event as event
-use Rattle.records.specs.declared.Counts.{Counts}
-use Rattle.records.specs.declared.Put.{Put}
-use Rattle.records.specs.declared.Put.the-variants as put
-use Rattle.records.specs.Out.Laws.{Appends}
+use Rattle.event_rooms.specs.declared.Counts.{Counts}
+use Rattle.event_rooms.specs.declared.Put.{Put}
+use Rattle.event_rooms.specs.declared.Put.the-variants as put
+use Rattle.event_rooms.specs.Out.Laws.{Appends}
 use Rattle.rules.specs.Scan.{Scan, say}
 use Rattle.gather.specs.Run.{fitted, eventsOf, acted, after, run}
 use Rattle.gather.specs.Memory.{Mem, memOf}

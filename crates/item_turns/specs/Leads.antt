@@ -5,7 +5,7 @@ use mathlib.Core.Path.{_≡_, refl, _∙_}
 use mathlib.Core.Bool.{Bool}
 use Rattle.tables.specs.Lists.{Lists}
 use Rattle.rules.specs.Gather.{Act, State}
-use Rattle.records.specs.Out.{Rooms, Out}
+use Rattle.event_rooms.specs.Out.{Rooms, Out}
 use Rattle.rules.specs.Scan.{Scan, say}
 use Rattle.gather.specs.Run.{out, run}
 use Rattle.gather.specs.Memory.{Holds, Mem}

@@ -8,10 +8,10 @@ use lib.ListN.{length, getD}
 use Rattle.tables.specs.Lists.{Lists, nth}
 use Rattle.tables.specs.Layout.{layoutOf}
 use Rattle.rules.specs.Gather.{State}
-use Rattle.records.specs.declared.Counts.{Counts}
-use Rattle.records.specs.declared.Put.the-variants as put
-use Rattle.records.specs.Out.{Rooms, Out}
-use Rattle.records.specs.Out.Laws.{Appends}
+use Rattle.event_rooms.specs.declared.Counts.{Counts}
+use Rattle.event_rooms.specs.declared.Put.the-variants as put
+use Rattle.event_rooms.specs.Out.{Rooms, Out}
+use Rattle.event_rooms.specs.Out.Laws.{Appends}
 use Rattle.vecmarks.specs.Info.{infoAt}
 use Rattle.gather.specs.declared.VecInfo.{VecInfo}
 use Rattle.gather.specs.Memory.{Holds, Mem, Tabled}

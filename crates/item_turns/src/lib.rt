@@ -1,12 +1,12 @@
 // A turn over an item of the input: a value of a plain signal, a write to a vector with the changes that follow along it, the event that rule (a) wants
 // before a write, or the step's end of one vector. A turn that leaves its item to be done says so, and the item is read again.
 use along::read_along;
+use event_rooms::Counts;
+use event_rooms::Put;
 use gather::Gathered;
 use gather::VecInfo;
 use gather::vec_info;
 use plain_writes::write_plain;
-use records::Counts;
-use records::Put;
 use section_heads::Item;
 use section_heads::Phase;
 use section_heads::Said;

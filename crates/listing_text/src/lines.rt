@@ -1,11 +1,11 @@
 // The lines of the listing.
+use event_streams::Next;
+use event_streams::next_event;
 use numbers::house::put_u64;
 use plain_text::put;
 use plain_text::put_decimal;
 use plain_text::put_hex;
-use records::Next;
 use records::Record;
-use records::next_event;
 use slices::u64_of_u32;
 use slices::usize_of_u32;
 use states::States;
@@ -14,7 +14,7 @@ ghost use Prim.Native.Nat.{_+_};
 ghost use mathlib.Core.Bool.{true};
 ghost use lib.ListN.{length};
 ghost use Rattle.numbers.specs.Fixed.{bigBytes};
-ghost use Rattle.records.specs.Stream.{inValues};
+ghost use Rattle.event_streams.specs.Stream.{inValues};
 ghost use Rattle.plain_text.specs.Text.Laws.{Adds};
 ghost use Rattle.listing_text.specs.Lines.{timeLine, hexLine, pairLine, realWord, stateWord, eventLine, eventLines};
 ghost use Rattle.listing_text.specs.Lines.Code.{numbered, Turned};

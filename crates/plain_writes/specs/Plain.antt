@@ -10,8 +10,8 @@ use Rattle.states.specs.declared.States.{States}
 use Rattle.states.specs.declared.States.the-variants.{Two, Nine}
 use Rattle.tables.specs.Lists.{nth}
 use Rattle.values.specs.Value.{Suits}
-use Rattle.records.specs.declared.Counts.{Counts}
-use Rattle.records.specs.Out.Laws.{EventsRoom, ValuesRoom}
+use Rattle.event_rooms.specs.declared.Counts.{Counts}
+use Rattle.event_rooms.specs.Out.Laws.{EventsRoom, ValuesRoom}
 use Rattle.gather.specs.Writes.{Alone}
 pub mod Code
 

@@ -1,16 +1,16 @@
 // Values of signals outside vectors: an event at once, with one site for one byte and for eight.
+use event_rooms::Counts;
+use event_rooms::Put;
+use event_rooms::append_value;
+use event_rooms::room_for;
 use numbers::house::put_u64;
-use records::Counts;
-use records::Put;
-use records::append_value;
-use records::room_for;
 use states::States;
 ghost use mathlib.Core.Path.{_≡_};
 ghost use mathlib.Core.List.{[], _∷_};
 ghost use lib.ListN.{length};
 ghost use Rattle.slices.specs.Splice.{splice};
 ghost use Rattle.tables.specs.Lists.{nth};
-ghost use Rattle.records.specs.Out.Laws.{Appends};
+ghost use Rattle.event_rooms.specs.Out.Laws.{Appends};
 ghost use Rattle.gather.specs.Run.{alone};
 ghost use Rattle.gather.specs.Writes.{Alone};
 ghost use Rattle.plain_writes.specs.Plain.{plainStates, plainValue, Fitting, Plain, AloneAt};
@@ -78,7 +78,7 @@ fn write_alone(
     if kind <= 5 {
         return plain_change(events, values, counts, kind, reference, value);
     }
-    records::real_change(events, counts, reference, value)
+    event_rooms::real_change(events, counts, reference, value)
 }
 
 // A value of a signal outside vectors.

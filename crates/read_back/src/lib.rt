@@ -9,7 +9,7 @@ use section_heads::Phase;
 use section_heads::Said;
 use section_heads::Stand;
 use section_heads::standing;
-use sections::next_item;
+use section_items::next_item;
 use sections::signal_kind;
 use slices::Field;
 use states::to_ieee1164;

@@ -1,49 +1,18 @@
-// How a reading begins and ends: zeros in what is lent, and the six numbers.
+// How a reading begins and ends.
 use answers::Answer;
-use answers::clear_past;
-use answers::refused;
-use answers::report;
 use gather::Part;
-use records::Counts;
-use slices::clear_bytes;
-use slices::clear_numbers;
+use left_buffers::accept;
+use left_buffers::clear_used;
+use left_buffers::refuse_used;
 use slices::u64_of_usize;
 use vecstarts::fill_starts;
 ghost use mathlib.Core.Path.{_≡_};
 ghost use Prim.Native.Nat.{_≤_};
-ghost use lib.ListN.{length, take, replicate};
+ghost use lib.ListN.{length, replicate};
 ghost use Rattle.vecstarts.specs.Numbers.{Shapes, layoutFrom, filled};
-ghost use Rattle.answers.specs.Outcome.{accepted, refused, leaves};
-ghost use Rattle.reading_ends.specs.Reading.{leftOf, lentOf, Used, Ready, endedAt, Finish};
-
-// What was used of the working buffers becomes zero, the first `n` bytes and the first `v` numbers: there are zeros past them.
-fn clear_used(room: &mut [u8], list: &mut [u32], n: usize, v: usize)
-    requires { ⌜ Used n v (now room) (now list) ⌝ }
-    ensures { λ _. ⌜ (now (room .exit) ≡ replicate (length (now (room .entry))) 0) × (now (list .exit) ≡ replicate (length (now (list .entry))) 0) ⌝ }
-{
-    clear_bytes(room, 0, n);
-    clear_numbers(list, 0, v);
-}
-
-// A refusal: every output becomes zero, and what was used of the working buffers.
-fn refuse_used(
-    events: &mut [u8],
-    values: &mut [u8],
-    room: &mut [u8],
-    list: &mut [u32],
-    n: usize,
-    v: usize,
-    number: u64,
-    place: u64,
-) -> Answer
-    requires { ⌜ Used n v (now room) (now list) ⌝ }
-    ensures { λ r. ⌜ leftOf r (now (events .exit)) (now (values .exit)) (now (room .exit)) (now (list .exit)) ≡ leaves (lentOf (now (events .entry)) (now (values .entry)) (now (room .entry)) (now (list .entry))) (refused number place) ⌝ }
-{
-    clear_past(events, 0);
-    clear_past(values, 0);
-    clear_used(room, list, n, v);
-    refused(number, place)
-}
+ghost use Rattle.answers.specs.Outcome.{refused, leaves};
+ghost use Rattle.left_buffers.specs.Left.{leftOf, lentOf};
+ghost use Rattle.reading_ends.specs.Reading.{endedAt, Finish};
 
 // A refusal before a reading begins: anything may stand in the working buffers, so all of them becomes zero.
 pub fn refuse(
@@ -59,26 +28,6 @@ pub fn refuse(
     let n = room.len();
     let v = list.len();
     refuse_used(events, values, room, list, n, v, number, place)
-}
-
-// An accepted end: what lies past the reported bytes becomes zero.
-fn accept(
-    events: &mut [u8],
-    values: &mut [u8],
-    room: &mut [u8],
-    list: &mut [u32],
-    n: usize,
-    v: usize,
-    read: usize,
-    c: Counts,
-) -> Answer
-    requires { ⌜ Ready n v (now room) (now list) (now events) (now values) c ⌝ }
-    ensures { λ r. ⌜ leftOf r (now (events .exit)) (now (values .exit)) (now (room .exit)) (now (list .exit)) ≡ leaves (lentOf (now (events .entry)) (now (values .entry)) (now (room .entry)) (now (list .entry))) (accepted read (take (c .events) (now (events .entry))) (take (c .values) (now (values .entry))) (c .steps)) ⌝ }
-{
-    clear_used(room, list, n, v);
-    clear_past(events, c.events);
-    clear_past(values, c.values);
-    report(read, c)
 }
 
 // The end of a reading that used the first `n` bytes and the first `v` numbers.

@@ -1,18 +1,18 @@
 // Section reading: between steps what the bytes say, one item at a time; and each step's time and values.
+use event_rooms::Put;
+use event_rooms::time_change;
 use gather::Gathered;
 use gather::Part;
 use item_turns::Bytes;
 use item_turns::Numbers;
-use records::Put;
-use records::time_change;
 use section_heads::How;
 use section_heads::Item;
 use section_heads::Phase;
 use section_heads::Said;
 use section_heads::Stand;
 use section_heads::standing;
-use sections::after_values;
-use sections::head_item;
+use section_items::after_values;
+use section_items::head_item;
 use value_readings::read_values;
 ghost use mathlib.Core.Path.{_≡_};
 ghost use Rattle.section_scan.specs.Sections.{scanSections};

@@ -20,7 +20,7 @@ use Rattle.rules.specs.Gather.{Act, time, write, stepEnd, Happening, at, single
 use Rattle.rules.specs.Gather.Laws.{happens-append}
 use Rattle.records.specs.Event.{Event, recordBytes, recordOf, eventValue}
 use Rattle.records.specs.Event as event
-use Rattle.records.specs.Out.{Rooms, empty, fits}
+use Rattle.event_rooms.specs.Out.{Rooms, empty, fits}
 use Rattle.rules.specs.Scan.{Scan, Says}
 use Rattle.gather.specs.Run.{gathers, alone, ofVector, eventsOf}
 use Rattle.gather.specs.Run.Rendered.{valuesOf, stepsOf}

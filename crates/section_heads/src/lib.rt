@@ -1,17 +1,13 @@
-// Where a reading of sections stands, what it finds, and its items outside steps: marks, heads, entries. Nothing of memory or vectors.
+// Where a reading of sections stands, what it finds, and the heads of sections. Nothing of memory or vectors.
 use numbers::fixed::Positive;
 use numbers::fixed::read_i64;
 use numbers::fixed::read_u32;
-use numbers::marks::EOD;
-use numbers::marks::Section;
 use numbers::marks::is_mark;
-use numbers::marks::section_at;
 use slices::Field;
 use slices::field_at;
 ghost use mathlib.Core.Path.{_≡_};
 ghost use Rattle.section_heads.specs.Heads.{standing, goes, passes, begins, stops, bad};
-ghost use Rattle.section_heads.specs.Heads.{endItem, openSnapshot, openCycle, openDirectory, openTailer, opens, sectionItem};
-ghost use Rattle.section_heads.specs.Heads.{entryItem};
+ghost use Rattle.section_heads.specs.Heads.{openSnapshot, openCycle, openDirectory, openTailer};
 
 // How bytes are read.
 pub struct How {
@@ -71,7 +67,7 @@ pub fn goes(at: usize, said: Said, then: Stand) -> Item
     Item { at, said, then }
 }
 
-fn passes(at: usize, phase: Phase, id: usize) -> Item
+pub fn passes(at: usize, phase: Phase, id: usize) -> Item
     ensures { λ r. ⌜ r ≡ passes at phase id ⌝ }
 {
     goes(at, Said::Nothing, standing(phase, id, 0))
@@ -96,21 +92,7 @@ pub fn bad(at: usize, number: u64) -> Item
     stops(at, Said::Bad(number))
 }
 
-pub fn end_item(s: &[u8], at: usize, mark: &[u8; 4]) -> Item
-    ensures { λ r. ⌜ r ≡ endItem (now (mark .entry)) (now (s .entry)) at ⌝ }
-{
-    match field_at(s, at, 4) {
-        Field::Next(next) => {
-            if is_mark(s, at, mark) {
-                return passes(next, Phase::Mark, 0);
-            }
-            bad(at, 10)
-        }
-        Field::Short => bad(at, 7),
-    }
-}
-
-fn open_snapshot(how: How, s: &[u8], at: usize) -> Item
+pub fn open_snapshot(how: How, s: &[u8], at: usize) -> Item
     ensures { λ r. ⌜ r ≡ openSnapshot how (now (s .entry)) at ⌝ }
 {
     match field_at(s, at, 12) {
@@ -124,7 +106,7 @@ fn open_snapshot(how: How, s: &[u8], at: usize) -> Item
     }
 }
 
-fn open_cycle(how: How, s: &[u8], at: usize) -> Item
+pub fn open_cycle(how: How, s: &[u8], at: usize) -> Item
     ensures { λ r. ⌜ r ≡ openCycle how (now (s .entry)) at ⌝ }
 {
     match field_at(s, at, 8) {
@@ -133,7 +115,7 @@ fn open_cycle(how: How, s: &[u8], at: usize) -> Item
     }
 }
 
-fn open_directory(how: How, s: &[u8], at: usize) -> Item
+pub fn open_directory(how: How, s: &[u8], at: usize) -> Item
     ensures { λ r. ⌜ r ≡ openDirectory how (now (s .entry)) at ⌝ }
 {
     match field_at(s, at, 8) {
@@ -146,51 +128,11 @@ fn open_directory(how: How, s: &[u8], at: usize) -> Item
 }
 
 // The tailer's bytes of any content.
-fn open_tailer(s: &[u8], at: usize) -> Item
+pub fn open_tailer(s: &[u8], at: usize) -> Item
     ensures { λ r. ⌜ r ≡ openTailer (now (s .entry)) at ⌝ }
 {
     match field_at(s, at, 8) {
         Field::Next(next) => stops(next, Said::Over),
-        Field::Short => bad(at, 7),
-    }
-}
-
-// What a section holds that its mark at `mark` opens.
-fn opened(how: How, s: &[u8], section: Section, mark: usize, at: usize) -> Item
-    ensures { λ r. ⌜ r ≡ opens how (now (s .entry)) section mark at ⌝ }
-{
-    match section {
-        Section::Snapshot => open_snapshot(how, s, at),
-        Section::Cycle => open_cycle(how, s, at),
-        Section::Directory => open_directory(how, s, at),
-        Section::Tailer => open_tailer(s, at),
-        Section::Unknown => bad(mark, 8),
-    }
-}
-
-pub fn section_item(how: How, s: &[u8], at: usize) -> Item
-    ensures { λ r. ⌜ r ≡ sectionItem how (now (s .entry)) at ⌝ }
-{
-    match field_at(s, at, 4) {
-        Field::Next(next) => opened(how, s, section_at(s, at), at, next),
-        Field::Short => bad(at, 7),
-    }
-}
-
-pub fn entry_item(how: How, s: &[u8], left: usize, at: usize) -> Item
-    ensures { λ r. ⌜ r ≡ entryItem how (now (s .entry)) left at ⌝ }
-{
-    if left == 0 {
-        return end_item(s, at, &EOD);
-    }
-    match field_at(s, at, 4) {
-        Field::Next(second) => match field_at(s, second, 4) {
-            Field::Next(next) => match read_u32(how.big_endian, s, second) {
-                Positive::Number(_) => passes(next, Phase::Entries, left - 1),
-                Positive::Negative => bad(second, 11),
-            },
-            Field::Short => bad(second, 7),
-        },
         Field::Short => bad(at, 7),
     }
 }

@@ -6,18 +6,15 @@ use number_writer::put_fixed;
 use number_writer::put_signed;
 use number_writer::put_unsigned;
 use numbers::marks::CYC;
-use numbers::marks::ECY;
-use numbers::marks::TAI;
 use slices::Field;
 ghost use mathlib.Core.Path.{_≡_};
 ghost use mathlib.Core.Bool.{true};
 ghost use mathlib.Core.List.{_++_};
-ghost use Prim.Native.Nat.{_+_, _<_, _≤_};
-ghost use lib.ListN.{length, replicate};
-ghost use Rattle.numbers.specs.Marks.{cyc, tai};
+ghost use Prim.Native.Nat.{_<_};
+ghost use Rattle.numbers.specs.Marks.{cyc};
 ghost use Rattle.number_writer.specs.Put.{Puts};
 ghost use Rattle.number_writer.specs.Little.{fixedBytes};
-ghost use Rattle.sections_writer.specs.Writer.{timeBytes, timeGood, valueBytes, writeBytes, cycleEnd, closing};
+ghost use Rattle.sections_writer.specs.Writer.{timeBytes, timeGood, valueBytes, writeBytes};
 ghost use Rattle.sections_writer.specs.Writer.Turn.{EndsIn};
 
 // Where the writing stands: inside a step or not, the steps opened so far, the last one's time, and its last id.
@@ -104,41 +101,6 @@ pub fn put_write(
 {
     match put_unsigned(out, at, (id - pen.id) as u64) {
         Field::Next(value_at) => put_value(out, value_at, kind, value, s, next),
-        Field::Short => Field::Short,
-    }
-}
-
-// "A closing delta of -1" and the end mark, where there is a cycle.
-fn put_cycle_end(out: &mut [u8], at: usize, pen: Pen) -> Field
-    requires { ⌜ at ≤ length (now out) ⌝ }
-    ensures { λ r. ⌜ Puts (now (out .entry)) at (cycleEnd pen) (now (out .exit)) r ⌝ }
-{
-    if pen.steps == 0 {
-        return Field::Next(at);
-    }
-    match put_signed(out, at, 0xffff_ffff_ffff_ffff) {
-        Field::Next(next) => put_bytes(out, next, &ECY),
-        Field::Short => Field::Short,
-    }
-}
-
-// "A tailer with eight zero bytes".
-fn put_tailer(out: &mut [u8], at: usize) -> Field
-    ensures { λ r. ⌜ Puts (now (out .entry)) at (tai ++ replicate 8 0) (now (out .exit)) r ⌝ }
-{
-    let zeros: [u8; 8] = [0; 8];
-    match put_bytes(out, at, &TAI) {
-        Field::Next(next) => put_bytes(out, next, &zeros),
-        Field::Short => Field::Short,
-    }
-}
-
-pub fn put_closing(out: &mut [u8], at: usize, pen: Pen) -> Field
-    requires { ⌜ at ≤ length (now out) ⌝ }
-    ensures { λ r. ⌜ Puts (now (out .entry)) at (closing pen) (now (out .exit)) r ⌝ }
-{
-    match put_cycle_end(out, at, pen) {
-        Field::Next(next) => put_tailer(out, next),
         Field::Short => Field::Short,
     }
 }

@@ -1,7 +1,7 @@
 // What a session vector, a strobe and a close line show at each step's end of an event stream.
-use records::Next;
+use event_streams::Next;
+use event_streams::next_event;
 use records::Record;
-use records::next_event;
 use slices::u32_of_byte;
 use slices::usize_of_u32;
 use states::States;
@@ -11,7 +11,7 @@ ghost use Prim.Native.Nat.{_+_, _≤_};
 ghost use lib.ListN.{length};
 ghost use Rattle.slices.specs.Splice.{part};
 ghost use Rattle.numbers.specs.Fixed.{big};
-ghost use Rattle.records.specs.Stream.{inValues};
+ghost use Rattle.event_streams.specs.Stream.{inValues};
 ghost use Rattle.step_ends.specs.Steps.{lineOf, twoOf, suits, opened, shows, seeTime, seeReal, seeValue, seeEvent, see};
 ghost use Rattle.step_ends.specs.Steps.Code.{Few, Within};
 

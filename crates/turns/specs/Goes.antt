@@ -8,7 +8,7 @@ use mathlib.Core.List.{List, [], _∷_}
 use Rattle.tables.specs.Lists.{Lists}
 use Rattle.rules.specs.Gather.{Act, State}
 use Rattle.records.specs.Event.{Event}
-use Rattle.records.specs.Out.{Rooms, Out, appendAll}
+use Rattle.event_rooms.specs.Out.{Rooms, Out, appendAll}
 use Rattle.rules.specs.Scan.{Scan, say}
 use Rattle.gather.specs.Run.{out, fitted, run}
 use Rattle.gather.specs.Memory.{Holds, Mem}

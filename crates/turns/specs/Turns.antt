@@ -5,12 +5,12 @@ use mathlib.Core.Bool.{true, false, cond}
 use mathlib.Core.List.{List}
 use lib.ListN.{length}
 use Rattle.slices.specs.Splice.{splice}
-use Rattle.records.specs.declared.Counts.{Counts}
-use Rattle.records.specs.declared.Put.{Put}
-use Rattle.records.specs.declared.Put.the-variants.{Done, Full}
+use Rattle.event_rooms.specs.declared.Counts.{Counts}
+use Rattle.event_rooms.specs.declared.Put.{Put}
+use Rattle.event_rooms.specs.declared.Put.the-variants.{Done, Full}
 use Rattle.records.specs.declared.Record.the-variants.{Value}
 use Rattle.records.specs.Event.{recordBytes}
-use Rattle.records.specs.Out.Laws.{EventsRoom, ValuesRoom, roomFor, counted}
+use Rattle.event_rooms.specs.Out.Laws.{EventsRoom, ValuesRoom, roomFor, counted}
 use Rattle.vecmarks.specs.Info.{Inside, isSecond, hasMarks, withMark, marksOf}
 use Rattle.vecmarks.specs.Full.{fullIn}
 use Rattle.vecbuffer.specs.Changes as change

@@ -1,14 +1,14 @@
 // The gatherer's small steps over the lent memory: a write or a step's end does one thing to one vector, and says whether an event is due and whether the
 // act is over.
+use event_rooms::Counts;
+use event_rooms::Put;
+use event_rooms::append_value;
+use event_rooms::room_for;
+use full_marks::full_signal_has_changed;
 use gather::Gathered;
 use gather::VecInfo;
-use records::Counts;
-use records::Put;
-use records::append_value;
-use records::room_for;
 use vecbuffer::get_full_value_and_clear_changes;
 use vecbuffer::update_value;
-use vecmarks::full_signal_has_changed;
 use vecmarks::has_signal_changed;
 use vecmarks::is_second_change;
 use vecmarks::unlist;

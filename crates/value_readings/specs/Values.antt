@@ -7,7 +7,7 @@ use mathlib.Core.List.{List}
 use lib.ListN.{length}
 use Rattle.tables.specs.Lists.{Lists}
 use Rattle.rules.specs.Gather.{State}
-use Rattle.records.specs.Out.{Rooms, Out}
+use Rattle.event_rooms.specs.Out.{Rooms, Out}
 use Rattle.gather.specs.declared.Part.{Part}
 use Rattle.gather.specs.declared.Part.the-variants as part
 use Rattle.rules.specs.Scan.{Scan}

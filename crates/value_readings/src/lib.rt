@@ -11,7 +11,7 @@ use item_turns::Numbers;
 use section_heads::Item;
 use section_heads::Stand;
 use section_heads::standing;
-use sections::value_item;
+use section_items::value_item;
 use vector_turns::next_step;
 ghost use Rattle.sections.specs.Item.{valueItem};
 ghost use Rattle.item_acts.specs.Acts.{Acts};

@@ -1,16 +1,13 @@
 // The values and marks of one vector in the working room, by where its bytes lie.
+use packed_values::get_at;
+use packed_values::set_at;
 use states::States;
-use states::get_at;
-use states::set_at;
 ghost use mathlib.Core.Path.{_≡_};
 ghost use mathlib.Core.Bool.{not, cond};
-ghost use Prim.Native.Nat.{_+_, _-_, _<_, _≤_, _^_};
-ghost use lib.ListN.{length};
-ghost use Rattle.slices.specs.Splice.{part};
+ghost use Prim.Native.Nat.{_+_, _<_, _^_};
 ghost use Rattle.states.specs.declared.States.the-variants.{Two};
 ghost use Rattle.states.specs.Kind.{bits, bytesRequired};
-ghost use Rattle.vecmarks.specs.Info.{Inside, valueOf, withValue, isMarked, withMark, isSecond, hasMarks, isQuiet, withBit, marksOf};
-ghost use Rattle.vecmarks.specs.Full.{allFull, fullIn};
+ghost use Rattle.vecmarks.specs.Info.{Inside, valueOf, withValue, isMarked, withMark, isSecond, hasMarks, isQuiet, withBit};
 
 // Where the bytes of a vector lie: its value bytes from `start` on, and its mask bytes behind them.
 pub struct VecBufferInfo {
@@ -25,7 +22,7 @@ pub fn get_value(room: &[u8], info: VecBufferInfo, bit: usize) -> u8
     ensures { λ r. ⌜ r ≡ valueOf info bit (now (room .entry)) ⌝ }
 {
     let kind = info.states;
-    states::get_value(room, kind, info.start, info.bytes, bit)
+    packed_values::get_value(room, kind, info.start, info.bytes, bit)
 }
 
 pub fn set_value(room: &mut [u8], info: VecBufferInfo, bit: usize, value: u8)
@@ -33,7 +30,7 @@ pub fn set_value(room: &mut [u8], info: VecBufferInfo, bit: usize, value: u8)
     ensures { λ _. ⌜ now (room .exit) ≡ withValue info bit value (now (room .entry)) ⌝ }
 {
     let kind = info.states;
-    states::set_value(room, kind, info.start, info.bytes, bit, value);
+    packed_values::set_value(room, kind, info.start, info.bytes, bit, value);
 }
 
 // Whether a bit was written since the last event of its vector.
@@ -67,61 +64,6 @@ pub fn mask_bytes(width: usize) -> usize
     ensures { λ r. ⌜ r ≡ bytesRequired Two width ⌝ }
 {
     States::Two.bytes_required(width)
-}
-
-// Whether each of `count` bytes from `at` on has all its bits set.
-fn all_full(room: &[u8], at: usize, count: usize) -> bool
-    requires { ⌜ at + count ≤ length (now room) ⌝ }
-    ensures { λ r. ⌜ r ≡ allFull (part (now (room .entry)) at count) ⌝ }
-{
-    let mut i: usize = 0;
-    while i < count {
-        if room[at + i] != 255 {
-            return false;
-        }
-        i += 1;
-    }
-    true
-}
-
-// The mask of the lowest `k` bits.
-fn low_bits(k: usize) -> u8
-    requires { ⌜ k < 8 ⌝ }
-    ensures { λ r. ⌜ r ≡ 2 ^ k - 1 ⌝ }
-{
-    (1 << (k as u32)) - 1
-}
-
-// Whether each of `count` bytes from `at` on has all its bits set, the last asked first: a list that falls fills it last.
-fn all_full_by_last(room: &[u8], at: usize, count: usize) -> bool
-    requires { ⌜ at + count ≤ length (now room) ⌝ }
-    ensures { λ r. ⌜ r ≡ allFull (part (now (room .entry)) at count) ⌝ }
-{
-    if count == 0 {
-        return true;
-    }
-    if room[at + (count - 1)] != 255 {
-        return false;
-    }
-    all_full(room, at, count)
-}
-
-// Rule (c), as the Rust tests it: the first mask byte is skipped unless the width is a multiple of 8, all others must be full, and the one skipped must
-// have the bits that the width leaves over.
-pub fn full_signal_has_changed(room: &[u8], info: VecBufferInfo) -> bool
-    requires { ⌜ Inside (now room) info ⌝ }
-    ensures { λ r. ⌜ r ≡ fullIn (info .width) (marksOf info (now (room .entry))) ⌝ }
-{
-    let at = info.start + info.bytes;
-    let count = mask_bytes(info.width);
-    let over = info.width % 8;
-    if over == 0 {
-        return all_full_by_last(room, at, count);
-    }
-    if !all_full_by_last(room, at + 1, count - 1) {
-        return false;
-    }
-    room[at] == low_bits(over)
 }
 
 // Whether a vector has marks.

@@ -2,7 +2,7 @@
 -- That the code gives just `writeSections` and `readBack` is the promise of each public call.
 -- Assumes nothing.
 use mathlib.Core.Path.{_≡_, refl, sym, ap, _∙_}
-use mathlib.Core.Logic.{_≢_, _⊎_, inl, inr}
+use mathlib.Core.Logic.{inl, inr}
 use Prim.Native.Nat.{ℕ, _+_, _^_, _≤_, _<_}
 use mathlib.Core.Bool.{Bool}
 use mathlib.Core.List.{List, [], _++_}
@@ -19,7 +19,7 @@ use Rattle.leb128.specs.Shortest.Laws.{unsigned-back, signed-back, unsigned-lea
 use Rattle.tables.specs.Lists.{Lists}
 use Rattle.tables.specs.declared.Check.{Check}
 use Rattle.tables.specs.declared.Check.the-variants.{Passed, Refused}
-use Rattle.rules.specs.Scan.{Scan, Ends, Faults}
+use Rattle.rules.specs.Scan.{Scan, Ends}
 use Rattle.section_scan.specs.Sections.{scanSections}
 use Rattle.changes.specs.Changes.{scanChanges}
 use Rattle.checks.specs.Checked.{checksWithoutRoom, without-number, without-limits, without-alike}
@@ -29,7 +29,7 @@ use Rattle.written_scans.specs.Reread.Refused.{Comes, Own, writes-as, Full, giv
 use Rattle.written_scans.specs.Reread.Stream.{read-back}
 use Rattle.answers.specs.Outcome.{Outcome, accepted, refused, answer, eventBytes, Lent, LeftKept, leavesKept}
 use Rattle.entries.specs.Entries.{checked, readSections, readChanges}
-use Rattle.answers.specs.Outcome.Laws.{Allowed, padded-front, answer-events, answer-values, allowed-values, acceptance-is, refusal-is}
+use Rattle.answers.specs.Outcome.Laws.{Allowed, padded-front, answer-events, answer-values, allowed-values, acceptance-is}
 use Rattle.entries.specs.Entries.Scanned.{Scanned, sections-scanned, changes-scanned}
 use Rattle.entries.specs.Demands.{Answers, Output, answers-of, events-of}
 use Rattle.answers.specs.Filled.{filled}
@@ -50,10 +50,6 @@ pub record Demand1 (t : Lists) (input room : ℕ) (x : LeftKept) : Type 0 where
   -- "Each public entry does its own checking."
   pub checks : (n p : ℕ) → checksWithoutRoom t input room ≡ Refused n p → (x .answer .number ≡ n) × (x .answer .place ≡ p)
 
--- why a call is refused: by its checks, as the scan of its input, or with a number of its own
-abbrev pub Why : (own : ℕ → Type 0) → Lists → (input room : ℕ) → Scan → (n p : ℕ) → Type 0
-Why own t input room sc n p = (checksWithoutRoom t input room ≡ Refused n p) ⊎ (Faults n p sc ⊎ own n)
-
 -- ---- writing
 
 -- "LEB128 numbers in their shortest form": the number is read back, with any bytes before and after it, and no encoding of it is shorter
@@ -68,13 +64,12 @@ pub record Again (t : Lists) (flag : Bool) (s : List ℕ) (room : ℕ) (x y : Le
   pub steps : y .answer .steps ≡ x .answer .steps
   pub written : writeSections t flag (reported y) room ≡ x
 
+-- when it is accepted and where it is refused: `call_pages` WritePage
 pub record WriteDemand (t : Lists) (flag : Bool) (s : List ℕ) (room : ℕ) (x : LeftKept) : Type 0 where
   -- "An accepted change stream and a flag become one cycle section ..": the definition's bytes, with "steps .. time records read"
   pub bytes : x .answer .number ≡ 0 → writer.writeSections t flag s room ≡ wrote (x .answer .read) (reported x) (x .answer .steps)
   -- a stream that change reading scans to its end
   pub read : x .answer .number ≡ 0 → Ends (x .answer .read) (scanChanges t s)
-  -- "Refusals: 22 .., 23 .., both at the record, after 14 and before 16; 16 .."
-  pub refuses : x .answer .number ≢ 0 → Why Own t (length s) room (scanChanges t s) (x .answer .number) (x .answer .place)
   -- "Where the written bytes are within the section limit, reading them gives the same events as change reading", whatever is lent; `s` are bytes, as every input is
   pub same : Bytes s → x .answer .number ≡ 0 → x .answer .events ≤ 16777215 → (l : Lent) → Alike (readSections t flag (reported x) l) (readChanges t s l)
   -- ".. and reading what we wrote back into change records and writing again gives the same bytes": with room for the stream, it comes back itself
@@ -82,11 +77,11 @@ pub record WriteDemand (t : Lists) (flag : Bool) (s : List ℕ) (room : ℕ) (x 
 
 -- ---- reading back
 
+-- when it is accepted and where it is refused: `call_pages` BackPage
 pub record BackDemand (t : Lists) (flag : Bool) (s : List ℕ) (room : ℕ) (x : LeftKept) : Type 0 where
   -- the records of what the sections say
   pub records : x .answer .number ≡ 0 → back.readBack t flag s room ≡ wrote (x .answer .read) (reported x) (x .answer .steps)
   pub read : x .answer .number ≡ 0 → Ends (x .answer .read) (scanSections t flag s)
-  pub refuses : x .answer .number ≢ 0 → Why Full t (length s) room (scanSections t flag s) (x .answer .number) (x .answer .place)
 
 -- ---- their proofs
 
@@ -103,12 +98,6 @@ unfolding checked filled
 checked-filled Passed (wrote j bs m) i es vs n q = let a : j ≡ i = cc in let b : bs ≡ es = cc in let d : m ≡ n = cc in (refl, rw (a, b, d))
 checked-filled Passed (ended.refused m p) i es vs n q = let z : _≡_ {A = ℕ} 0 1 = cc in absurd (omega arith)
 checked-filled (Refused m p) e i es vs n q = let z : _≡_ {A = ℕ} 0 1 = cc in absurd (omega arith)
-
-checked-refused : (k : Check) (e : Ended) (n p : ℕ) → checked k (filled e) ≡ refused n p → (k ≡ Refused n p) ⊎ (e ≡ ended.refused n p)
-unfolding checked filled
-checked-refused Passed (wrote j bs m) n p q = let z : _≡_ {A = ℕ} 0 1 = cc in absurd (omega arith)
-checked-refused Passed (ended.refused m r) n p q = let a : m ≡ n = cc in let b : r ≡ p = cc in inr (rw (a, b))
-checked-refused (Refused m r) e n p q = let a : m ≡ n = cc in let b : r ≡ p = cc in inl (rw (a, b))
 
 -- a call that ends as `e`, beside the scan of its input
 module _ (own : ℕ → Type 0) (number : (n : ℕ) → own n → (1 ≤ n) × (n ≤ 23)) (t : Lists) (input room : ℕ) (sc : Scan) (w : Scanned input sc) (e : Ended) (c : Comes own room e sc) where
@@ -163,13 +152,6 @@ module _ (own : ℕ → Type 0) (number : (n : ℕ) → own n → (1 ≤ n) × (
   read-there : answer result .number ≡ 0 → Ends (answer result .read) sc
   read-there h = ended-there _ (accepted-as h .1) .0
 
-  why : answer result .number ≢ 0 → Why own t input room sc (answer result .number) (answer result .place)
-  why h = go (checked-refused check e _ _ (refusal-is result h))
-    where
-      go : (check ≡ Refused (answer result .number) (answer result .place)) ⊎ (e ≡ ended.refused (answer result .number) (answer result .place)) → Why own t input room sc (answer result .number) (answer result .place)
-      go (inl q) = inl q
-      go (inr q) = inr (ended-there _ q)
-
 -- ---- writing
 
 pub unsigned-shortest : Shortest unsignedBytes readUnsigned
@@ -213,7 +195,6 @@ module _ (t : Lists) (flag : Bool) (s : List ℕ) (room : ℕ) where
   write-2 = record {
     bytes = λ h. got h .1;
     read = read-there Own own-number t (length s) room (scanChanges t s) (changes-scanned t s) writing (writes-as t flag s room);
-    refuses = why Own own-number t (length s) room (scanChanges t s) (changes-scanned t s) writing (writes-as t flag s room);
     same = λ b h m. same-left t flag s room _ _ _ b (got h .1) (long m) (without-limits t (length s) room (got h .0) .0);
     again = λ b h m size g l.
         let y = comes-back b _ _ _ (got h .0) (got h .1) (long m) size g l in
@@ -233,5 +214,4 @@ module _ (t : Lists) (flag : Bool) (s : List ℕ) (room : ℕ) where
   back-2 = record {
     records = λ h. accepted-as Full full-number t (length s) room (scanSections t flag s) (sections-scanned t flag s) (back.readBack t flag s room) (gives-as t room flag s) h .1;
     read = read-there Full full-number t (length s) room (scanSections t flag s) (sections-scanned t flag s) (back.readBack t flag s room) (gives-as t room flag s);
-    refuses = why Full full-number t (length s) room (scanSections t flag s) (sections-scanned t flag s) (back.readBack t flag s room) (gives-as t room flag s);
   }

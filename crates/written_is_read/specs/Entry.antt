@@ -11,7 +11,7 @@ use Rattle.tables.specs.Lists.{Lists}
 use Rattle.tables.specs.Checks.{check1, checks}
 use Rattle.tables.specs.declared.Check.{Check}
 use Rattle.tables.specs.declared.Check.the-variants.{Passed, Refused}
-use Rattle.records.specs.Out.{Rooms}
+use Rattle.event_rooms.specs.Out.{Rooms}
 use Rattle.gather.specs.Run.{Went, went, out, runAll}
 use Rattle.section_scan.specs.Sections.{scanSections}
 use Rattle.changes.specs.Changes.{scanChanges}

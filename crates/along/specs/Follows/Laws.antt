@@ -16,7 +16,7 @@ use Rattle.tables.specs.Layout.{layoutOf}
 use Rattle.tables.specs.Layout.Laws.{count-is, width-is}
 use Rattle.tables.specs.Checks.Laws.{nth-less}
 use Rattle.rules.specs.Gather.{Act, State, width, write}
-use Rattle.records.specs.Out.{Rooms, Out}
+use Rattle.event_rooms.specs.Out.{Rooms, Out}
 use Rattle.vecmarks.specs.Info.{infoAt, isMarked, isQuiet, withBit}
 use Rattle.vecbuffer.specs.Stands.{flagsAt}
 use Rattle.vecbuffer.specs.Stands.Laws.{asks-vector, asks-flags, asks-known}

@@ -6,12 +6,12 @@ use mathlib.Core.List.{List, [], _∷_, _++_}
 use lib.ListN.{replicate}
 use Rattle.slices.specs.Splice.{part}
 use Rattle.numbers.specs.Fixed.{big, bigBytes}
-use Rattle.records.specs.Stream as stream
+use Rattle.event_streams.specs.Stream as stream
 use Rattle.tables.specs.Checks.{withinLimit}
 use Rattle.step_ends.specs.Steps as steps
 use Rattle.sessions.specs.Places as places
-use Rattle.fragments.specs.Output as outputs
-use Rattle.fragments.specs.Output.{fragment, closed, held, bytesOf}
+use Rattle.fragment_records.specs.Output as outputs
+use Rattle.fragment_records.specs.Output.{fragment, closed, held, bytesOf}
 use Rattle.fragments.specs.Counting as counting
 use Rattle.answers.specs.declared.Answer.{Answer}
 use Rattle.answers.specs.Outcome.{answer, eventBytes, padded, LeftKept, leavesKept}

@@ -9,9 +9,9 @@ use lib.ListN.{length}
 use Rattle.tables.specs.Lists.{Lists, signals}
 use Rattle.rules.specs.Gather.{time}
 use Rattle.records.specs.Event as event
-use Rattle.records.specs.declared.Put.{Put}
-use Rattle.records.specs.declared.Put.the-variants as put
-use Rattle.records.specs.Out.Laws.{EventsRoom, Appends}
+use Rattle.event_rooms.specs.declared.Put.{Put}
+use Rattle.event_rooms.specs.declared.Put.the-variants as put
+use Rattle.event_rooms.specs.Out.Laws.{EventsRoom, Appends}
 use Rattle.rules.specs.Scan.{Scan, done}
 use Rattle.gather.specs.Memory.{Mem, memOf}
 use Rattle.section_heads.specs.declared.Phase.{Phase}

@@ -14,8 +14,8 @@ use Rattle.step_ends.specs.Steps.{Steps, unseen, stepEnds, rose}
 use Rattle.step_ends.specs.Steps as steps
 use Rattle.sessions.specs.declared.Bench.{Bench}
 use Rattle.sessions.specs.Places.{placeOf, placeFor, counted, dropped, empty}
-use Rattle.fragments.specs.Output.{Out, fragment, outBytes, bytesOf, heldOf}
-use Rattle.fragments.specs.Output.Laws.{bytes-append, bytes-one}
+use Rattle.fragment_records.specs.Output.{Out, fragment, outBytes, bytesOf, heldOf}
+use Rattle.fragment_records.specs.Output.Laws.{bytes-append, bytes-one}
 use Rattle.fragments.specs.Counting.{Does, went, stops, seated, closes, closedOf, behind, andThen, counting, closing, stepEnd, finished, onDoes, runs, countFragments}
 use Rattle.courses.specs.Course.{Course, fault, fill}
 use Rattle.courses.specs.Benched.{seats, counts, drops, benchedFrom, benched}

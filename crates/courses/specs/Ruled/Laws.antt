@@ -12,10 +12,10 @@ use Rattle.slices.specs.Splice.{part}
 use Rattle.slices.specs.Splice.Laws.{length-part}
 use Rattle.records.specs.declared.Record.{Record}
 use Rattle.records.specs.declared.Record.the-variants.{Time, Value, Real}
-use Rattle.records.specs.declared.Next.{Next}
-use Rattle.records.specs.declared.Next.the-variants.{Event, End, Bad}
-use Rattle.records.specs.Stream.{isTime, nextEvent}
-use Rattle.records.specs.Stream.Laws.{found-event}
+use Rattle.event_streams.specs.declared.Next.{Next}
+use Rattle.event_streams.specs.declared.Next.the-variants.{Event, End, Bad}
+use Rattle.event_streams.specs.Stream.{isTime, nextEvent}
+use Rattle.event_streams.specs.Stream.Laws.{found-event}
 use Rattle.number_writer.specs.Ended.{Ended}
 use Rattle.number_writer.specs.Ended as ended
 use Rattle.encoder.specs.declared.Clock.{Clock}

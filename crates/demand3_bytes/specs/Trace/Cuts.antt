@@ -16,7 +16,7 @@ use Rattle.states.specs.declared.States.{States}
 use Rattle.states.specs.declared.States.the-variants.{Two, Nine}
 use Rattle.records.specs.declared.Record.the-variants.{Value, Real}
 use Rattle.records.specs.Event.{Event, recordOf, recordBytes}
-use Rattle.records.specs.Stream.{recordAt, isTime}
+use Rattle.event_streams.specs.Stream.{recordAt, isTime}
 use Rattle.records.specs.Event as events
 use Rattle.gather.specs.Run.{gathers, alone}
 use Rattle.demand3_bytes.specs.Statements.{Labelled, labelOf, stateIn, Moment, said, made, bitOf}

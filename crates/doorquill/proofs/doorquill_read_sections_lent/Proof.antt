@@ -45,7 +45,7 @@ use denote.Triple.Clauses.{ensured, lasts}
 use denote.Triple.Table.{entered, cited}
 use denote.Triple.Walked.{says, Stays, stay-none-slice, stay-none, gave-slice, walkOf, goes-none-slice, goes-none, goes-gave-slice, Walks, ends-at, walked, walk-meets}
 use denote.Exit.{yes}
-use Rattle.reading_ends.specs.Reading.{lentOf}
+use Rattle.left_buffers.specs.Left.{lentOf}
 use Rattle.doorquill.specs.Lent.{readSectionsLent}
 use Rattle.doorquill.specs.Lent.Flat.{roomFor, Unpacked, readFlat, leftLent}
 use Rattle.doorquill.specs.Lent.Entry.{fits-room, read-same}

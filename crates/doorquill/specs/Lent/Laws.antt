@@ -19,7 +19,7 @@ use Rattle.tables.specs.declared.Check.the-variants.{Passed, Refused}
 use Rattle.answers.specs.declared.Answer.{Answer}
 use Rattle.answers.specs.Outcome.{Left, Lent, refused, leaves}
 use Rattle.entries.specs.Entries.{readSections}
-use Rattle.reading_ends.specs.Reading.{leftOf, lentOf}
+use Rattle.left_buffers.specs.Left.{leftOf, lentOf}
 use Rattle.doorquill.specs.Lent.{LeftLent}
 use Rattle.doorquill.specs.Lent.Flat.{roomFor, lows, flatTable, checkFlat, checksFlat, readPassed, refusedLent, readBy, readFlat, leftLent}
 

@@ -14,10 +14,10 @@ use Rattle.slices.specs.Splice.Laws.{length-part, part-zero, part-front, part-s
 use Rattle.states.specs.declared.States.{States}
 use Rattle.records.specs.declared.Record.{Record}
 use Rattle.records.specs.declared.Record.the-variants.{Time, Value, Real}
-use Rattle.records.specs.declared.Next as records
-use Rattle.records.specs.declared.Next.the-variants.{Event, End, Bad}
-use Rattle.records.specs.Stream.{nextEvent}
-use Rattle.records.specs.Stream.Laws.{past-end, found-event}
+use Rattle.event_streams.specs.declared.Next as records
+use Rattle.event_streams.specs.declared.Next.the-variants.{Event, End, Bad}
+use Rattle.event_streams.specs.Stream.{nextEvent}
+use Rattle.event_streams.specs.Stream.Laws.{past-end, found-event}
 use Rattle.encoder.specs.declared.Clock.{Clock}
 use Rattle.encoder.specs.declared.Progress.{Progress}
 use Rattle.encoder.specs.declared.Turn.{Turn}

@@ -9,8 +9,8 @@ use lib.ListN.{length, getD}
 use lib.Dec.{leb}
 use Rattle.slices.specs.Splice.{part}
 use Rattle.records.specs.declared.Record.{Record}
-use Rattle.records.specs.declared.Next.the-variants.{Bad}
-use Rattle.records.specs.Stream.{eventLength, recordAt, nextEvent}
+use Rattle.event_streams.specs.declared.Next.the-variants.{Bad}
+use Rattle.event_streams.specs.Stream.{eventLength, recordAt, nextEvent}
 use Rattle.encoder.specs.declared.Clock.{Clock}
 use Rattle.encoder.specs.Rule.{keeps, ticks, times, Kept}
 pub mod Laws

@@ -1,8 +1,8 @@
--- What the time rule's entry does: what it reports where it is accepted, and why it is refused.
+-- What the time rule's entry does: what it reports where it is accepted, and which numbers a refusal may have.
 -- Assumes nothing.
 use Prim.Native.Nat.{ℕ, _≤_}
 use mathlib.Core.Path.{_≡_, refl}
-use mathlib.Core.Logic.{_≢_, _⊎_, inl, inr}
+use mathlib.Core.Logic.{_⊎_, inl, inr}
 use mathlib.Core.Bool.{Bool, true, false, cond, _&&_}
 use mathlib.Core.List.{List, []}
 use native.Mathlib.Omega.{arith}
@@ -15,7 +15,7 @@ use Rattle.encoder.specs.Rule.Keeping.Laws.{rule-keeps}
 use Rattle.encoder.specs.Rule.Keeping.Refusals.{rule-refuses}
 use Rattle.answers.specs.Outcome.{Outcome, accepted, refused, answer, eventBytes, valueBytes}
 use Rattle.entries.specs.Entries.{ruled}
-use Rattle.answers.specs.Outcome.Laws.{Allowed, acceptance-is, refusal-is}
+use Rattle.answers.specs.Outcome.Laws.{Allowed, acceptance-is}
 
 -- "1,073,741,823 bytes .. in any other buffer, the time rule's event and value inputs among them": the entry's own check
 abbrev pub limitsOf : List ℕ → (values room : ℕ) → Bool
@@ -53,10 +53,10 @@ module _ (s : List ℕ) (values room : ℕ) where
       go false b e = let z : _≡_ {A = ℕ} 0 1 = cc in absurd (omega arith)
 
   -- why it is refused: by its check, at a record, or with 16 because what is kept does not fit
-  abbrev pub Why : (n p : ℕ) → Type 0
+  abbrev Why : (n p : ℕ) → Type 0
   Why n p = ((limitsOf s values room ≡ false) × (n ≡ 1) × (p ≡ 0)) ⊎ ((limitsOf s values room ≡ true) × Refusal s values room n p)
 
-  pub rule-refused : (n p : ℕ) → ruleOutcome s values room ≡ refused n p → Why n p
+  rule-refused : (n p : ℕ) → ruleOutcome s values room ≡ refused n p → Why n p
   rule-refused n p = go (limitsOf s values room) refl
     where
       go : (b : Bool) → limitsOf s values room ≡ b → cond b (ruled (timeRule s values room)) (refused 1 0) ≡ refused n p → Why n p
@@ -82,6 +82,3 @@ module _ (s : List ℕ) (values room : ℕ) where
   pub ruling-accepted : answer (ruleOutcome s values room) .number ≡ 0
       → Accepted (answer (ruleOutcome s values room) .read) (eventBytes (ruleOutcome s values room)) (valueBytes (ruleOutcome s values room)) (answer (ruleOutcome s values room) .steps)
   ruling-accepted h = rule-accepted _ _ _ _ (acceptance-is 20 (length s) room 0 (ruleOutcome s values room) rule-allowed h)
-
-  pub ruling-refused : answer (ruleOutcome s values room) .number ≢ 0 → Why (answer (ruleOutcome s values room) .number) (answer (ruleOutcome s values room) .place)
-  ruling-refused h = rule-refused _ _ (refusal-is (ruleOutcome s values room) h)

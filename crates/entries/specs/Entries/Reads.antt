@@ -14,7 +14,7 @@ use Rattle.tables.specs.declared.Check.{Check}
 use Rattle.tables.specs.declared.Check.the-variants.{Passed, Refused}
 use Rattle.rules.specs.Gather.{State, begin}
 use Rattle.records.specs.Event.{Event}
-use Rattle.records.specs.Out.{Rooms, Out, empty, appendAll}
+use Rattle.event_rooms.specs.Out.{Rooms, Out, empty, appendAll}
 use Rattle.rules.specs.Scan.{Scan, acts, Ends}
 use Rattle.gather.specs.Run.{gathers, Went, went, out, runAll}
 use Rattle.gather.specs.Run.Rendered.{rendered, valuesOf, stepsOf, Within}

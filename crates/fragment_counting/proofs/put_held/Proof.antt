@@ -3,7 +3,7 @@
 use Prim.Native.Nat.{_-_}
 use lib.ListN.{length}
 use borrow.Author.Needs.{needs}
-use Rattle.fragments.specs.Output.Code.{Holding, hold-laws}
+use Rattle.fragment_records.specs.Output.Code.{Holding, hold-laws}
 use Rattle.fragment_counting.proofs.put_held.Statement.{statement}
 use Rattle.fragment_counting.proofs.put_held.Tie as tie
 

@@ -1,6 +1,6 @@
 -- Written by tools/proof-answers from proofs.map.
 -- `fragment_counting::put_place` meets its contract: each need follows from `held-place-laws`. Assumes nothing.
-use Rattle.fragments.specs.Output.Code.{held-place-laws}
+use Rattle.fragment_records.specs.Output.Code.{held-place-laws}
 use borrow.Author.Needs.{needs}
 use Rattle.fragment_counting.proofs.put_place.Statement.{statement}
 use Rattle.fragment_counting.proofs.put_place.Tie as tie

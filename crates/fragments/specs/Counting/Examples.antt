@@ -7,14 +7,14 @@ use mathlib.Core.List.{List, [], _∷_, _++_}
 use lib.ListN.{replicate}
 use Rattle.slices.specs.Splice.{part}
 use Rattle.numbers.specs.Fixed.{big, bigBytes}
-use Rattle.records.specs.Stream.{eventLength, recordAt, isTime, inValues, judged, nextEvent}
+use Rattle.event_streams.specs.Stream.{eventLength, recordAt, isTime, inValues, judged, nextEvent}
 use Rattle.number_writer.specs.Ended.{Ended, wrote, refused}
 use Rattle.step_ends.specs.declared.Names.{Names}
 use Rattle.step_ends.specs.declared.Watch.{Watch}
 use Rattle.step_ends.specs.Steps.{lineOf, twoOf, suits, shows, seeTime, seeValue, seeReal, seeEvent, seeNext, see, lastStep, onSeen, unseen, stepsFrom, stepEnds, rose}
 use Rattle.sessions.specs.declared.Bench.{Bench}
 use Rattle.sessions.specs.Places.{lowest, isFree, isAt, placeFor, counted, dropped}
-use Rattle.fragments.specs.Output.{Out, fragment, closed, held, outBytes, bytesOf, heldAt, heldFrom}
+use Rattle.fragment_records.specs.Output.{Out, fragment, closed, held, outBytes, bytesOf, heldAt, heldFrom}
 use Rattle.fragments.specs.Counting.{Does, went, stops, seated, closes, behind, andThen, counting, closing, stepEnd, finished, onDoes, runs, countFragments}
 
 -- event records, of the references 3 the session, 4 the strobe, 5 the close line; the value buffer is 0 to 7

@@ -15,7 +15,7 @@ use Rattle.step_ends.specs.Steps.{rose}
 use Rattle.sessions.specs.declared.Bench.{Bench}
 use Rattle.sessions.specs.Places.{placeOf, placeFor, counted, dropped}
 use Rattle.sessions.specs.Places.Laws.{Most, counted-most, dropped-most}
-use Rattle.fragments.specs.Output.{Out, fragment, outBytes, bytesOf}
+use Rattle.fragment_records.specs.Output.{Out, fragment, outBytes, bytesOf}
 use Rattle.fragments.specs.Counting.{Does, went, stops, seated, closes, closedOf, behind, andThen, counting, closing, stepEnd}
 
 -- what holds of the bench and the records after something that was done

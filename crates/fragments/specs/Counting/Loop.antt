@@ -26,8 +26,8 @@ use Rattle.fragments.specs.declared.Going.{Going}
 use Rattle.fragments.specs.declared.Going.the-variants.{More, Over}
 use Rattle.fragments.specs.declared.Turn.{Turn}
 use Rattle.sessions.specs.Places.Laws.{Most, empty-most}
-use Rattle.fragments.specs.Output.{Out, bytesOf, heldOf}
-use Rattle.fragments.specs.Output.Laws.{bytes-append}
+use Rattle.fragment_records.specs.Output.{Out, bytesOf, heldOf}
+use Rattle.fragment_records.specs.Output.Laws.{bytes-append}
 use Rattle.fragments.specs.Counting.{Does, went, stops, stepEnd, finished, onDoes, runs, countFragments}
 use Rattle.fragments.specs.Counting.Laws.{After, step-most}
 use Rattle.fragments.specs.Counting.Turn.{endedAt, Finishes, EndsBy, LastsBy, SteppingBy, Goes, TurnsBy, Turns}

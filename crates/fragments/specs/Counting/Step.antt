@@ -20,9 +20,9 @@ use Rattle.fragments.specs.declared.Put.the-variants.{Next, Refused}
 use Rattle.fragments.specs.declared.Stepped.{Stepped}
 use Rattle.sessions.specs.Places.{placeOf, placeFor, counted, dropped}
 use Rattle.sessions.specs.Places.Code.{Few, Countable}
-use Rattle.fragments.specs.Output.{Out, fragment, closed, outBytes, bytesOf}
-use Rattle.fragments.specs.Output.Laws.{bytes-append, bytes-one}
-use Rattle.fragments.specs.Output.Code.{puts-out, puts-none, puts-room}
+use Rattle.fragment_records.specs.Output.{Out, fragment, closed, outBytes, bytesOf}
+use Rattle.fragment_records.specs.Output.Laws.{bytes-append, bytes-one}
+use Rattle.fragment_records.specs.Output.Code.{puts-out, puts-none, puts-room}
 use Rattle.fragments.specs.Counting.{Does, went, stops, seated, closes, closedOf, behind, andThen, counting, closing, stepEnd}
 
 -- a session is live at this place

@@ -24,8 +24,8 @@ use Rattle.fragments.specs.declared.Progress.{Progress}
 use Rattle.fragments.specs.declared.Going.the-variants.{More, Over}
 use Rattle.fragments.specs.declared.Turn.{Turn}
 use Rattle.sessions.specs.Places.Code.{Few}
-use Rattle.fragments.specs.Output.{bytesOf, heldOf}
-use Rattle.fragments.specs.Output.Code.{puts-room}
+use Rattle.fragment_records.specs.Output.{bytesOf, heldOf}
+use Rattle.fragment_records.specs.Output.Code.{puts-room}
 use Rattle.fragments.specs.Counting.{Does, went, stops, stepEnd}
 use Rattle.fragments.specs.Counting.Step.{ToBy, To}
 

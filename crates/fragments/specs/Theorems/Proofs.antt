@@ -21,9 +21,9 @@ use Rattle.sessions.specs.declared.Bench.{Bench}
 use Rattle.sessions.specs.Places.{isFree, placeOf, placeFor, counted, empty}
 use Rattle.sessions.specs.Places.Laws.{total, Whole, counted-whole, dropped-whole, counted-total, dropped-total, empty-whole, empty-total, Below, counted-below, dropped-below, empty-below, counted-distinct, dropped-distinct, empty-distinct}
 use Rattle.sessions.specs.Places.Laws.Tally.{onto, without, Agrees, empty-agrees, counted-agrees, closed-agrees, dropped-agrees}
-use Rattle.fragments.specs.Output.{Out, fragment, closed, held, bytesOf, recordsIn, heldAt, heldFrom, heldOf, fragmentsOf, countsIn}
-use Rattle.fragments.specs.Output.Laws.{fragments-append, counts-append, held-total, held-fragments}
-use Rattle.fragments.specs.Output.Back.{Fits, records-back}
+use Rattle.fragment_records.specs.Output.{Out, fragment, closed, held, bytesOf, recordsIn, heldAt, heldFrom, heldOf, fragmentsOf, countsIn}
+use Rattle.fragment_records.specs.Output.Laws.{fragments-append, counts-append, held-total, held-fragments}
+use Rattle.fragment_records.specs.Output.Back.{Fits, records-back}
 use Rattle.fragments.specs.Counting.{Does, went, stops, closedOf, stepEnd, finished, onDoes, runs, countFragments}
 use Rattle.fragments.specs.Counting.Laws.{After, step-after, Stops, step-stops}
 use Rattle.fragments.specs.Theorems.{fragmentsFrom, Tallies, Accounts, Why, Closes, Good, onward, benches, Every}

@@ -12,11 +12,11 @@ use Rattle.states.specs.Packed.{packed}
 use Rattle.tables.specs.Lists.{Lists}
 use Rattle.tables.specs.Layout.Laws.{count-is, state-is}
 use Rattle.rules.specs.Gather.{State}
-use Rattle.records.specs.declared.Counts.{Counts}
+use Rattle.event_rooms.specs.declared.Counts.{Counts}
 use Rattle.records.specs.declared.Record.the-variants.{Value}
 use Rattle.records.specs.Event.{recordBytes}
-use Rattle.records.specs.Out.{Rooms, Out}
-use Rattle.records.specs.Out.Laws.{roomFor, counted, value-full, value-done}
+use Rattle.event_rooms.specs.Out.{Rooms, Out}
+use Rattle.event_rooms.specs.Out.Laws.{roomFor, counted, value-full, value-done}
 use Rattle.vecbuffer.specs.Changes.{taken}
 use Rattle.vecbuffer.specs.Stands.Laws.{values-long, stands-taken, values-taken}
 use Rattle.gather.specs.Memory.{memOf, HoldsAt}

@@ -14,10 +14,10 @@ use Rattle.tables.specs.Layout.{layoutOf}
 use Rattle.rules.specs.Vector.{Write, Cause, rewritten, complete, Vec, all, cleared, fires, clashes, stored, actsEarly, act}
 use Rattle.rules.specs.Vector as op
 use Rattle.rules.specs.Gather.{write, Happening, at, single, of, ends, State, with, list, width, bitWrite, toVector, toward, does}
-use Rattle.records.specs.declared.Put.{Put}
-use Rattle.records.specs.declared.Put.the-variants as put
+use Rattle.event_rooms.specs.declared.Put.{Put}
+use Rattle.event_rooms.specs.declared.Put.the-variants as put
 use Rattle.records.specs.Event.{Event}
-use Rattle.records.specs.Out.{Rooms, Out, appendAll}
+use Rattle.event_rooms.specs.Out.{Rooms, Out, appendAll}
 use Rattle.vecbuffer.specs.Stands.{storing, clearing}
 use Rattle.vecbuffer.specs.Stands.Laws.{stands-as}
 use Rattle.gather.specs.Run.{gathers, ofVector, eventsOf, acted, after}

@@ -10,7 +10,7 @@ use Rattle.rules.specs.Vector.{actsEarly}
 use Rattle.rules.specs.Gather.{Act, State, happens}
 use Rattle.rules.specs.Gather.Laws.{stateAfter}
 use Rattle.records.specs.Event.{Event}
-use Rattle.records.specs.Out.{Rooms, Out, appendAll}
+use Rattle.event_rooms.specs.Out.{Rooms, Out, appendAll}
 use Rattle.rules.specs.Scan.{Scan, acts, Ends, Faults, Says}
 use Rattle.gather.specs.Run.{gathers, eventsOf}
 use Rattle.gather.specs.Run.Rendered.{Misfit}

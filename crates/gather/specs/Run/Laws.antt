@@ -5,7 +5,7 @@ use Prim.Native.Nat.{ℕ}
 use mathlib.Core.Option.{Option, none, some}
 use Rattle.tables.specs.Lists.{Lists}
 use Rattle.rules.specs.Gather.{State}
-use Rattle.records.specs.Out.{Rooms, Out}
+use Rattle.event_rooms.specs.Out.{Rooms, Out}
 use Rattle.rules.specs.Scan.{Scan, say, done, fault, and-then}
 use Rattle.gather.specs.Run.{Went, went, out, fitted, acted, after, run}
 

@@ -7,7 +7,7 @@ use mathlib.Core.Option.{some}
 use mathlib.Core.List.{List, [], _∷_, _++_}
 use lib.ListN.{length}
 use Rattle.records.specs.Event.{Event, recordOf, recordBytes, eventValue, eventSteps}
-use Rattle.records.specs.Out.{Rooms, Out, fits, appendAll}
+use Rattle.event_rooms.specs.Out.{Rooms, Out, fits, appendAll}
 pub mod Laws
 
 -- the records of some events, where the value bytes of the first start at `start`: "Value bytes lie end to end in event order."

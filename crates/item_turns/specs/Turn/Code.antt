@@ -8,10 +8,10 @@ use native.Mathlib.Omega.{arith}
 use borrow.Author.Tests.{not-true, not-false}
 use lib.ListN.{getD}
 use Rattle.tables.specs.Lists.{Lists, nth}
-use Rattle.records.specs.declared.Counts.{Counts}
-use Rattle.records.specs.declared.Put.{Put}
-use Rattle.records.specs.declared.Put.the-variants as put
-use Rattle.records.specs.Out.Laws.{Appends}
+use Rattle.event_rooms.specs.declared.Counts.{Counts}
+use Rattle.event_rooms.specs.declared.Put.{Put}
+use Rattle.event_rooms.specs.declared.Put.the-variants as put
+use Rattle.event_rooms.specs.Out.Laws.{Appends}
 use Rattle.gather.specs.declared.VecInfo.{VecInfo}
 use Rattle.gather.specs.Run.{alone}
 use Rattle.gather.specs.Writes.{vecInfoFrom, Looks}

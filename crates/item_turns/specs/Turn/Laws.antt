@@ -9,10 +9,10 @@ use lib.ListN.{length, getD}
 use Rattle.tables.specs.Lists.{Lists, nth, signals}
 use Rattle.tables.specs.Layout.{layoutOf}
 use Rattle.rules.specs.Gather.{State}
-use Rattle.records.specs.declared.Counts.{Counts}
-use Rattle.records.specs.declared.Put.{Put}
-use Rattle.records.specs.declared.Put.the-variants as put
-use Rattle.records.specs.Out.{Rooms, Out}
+use Rattle.event_rooms.specs.declared.Counts.{Counts}
+use Rattle.event_rooms.specs.declared.Put.{Put}
+use Rattle.event_rooms.specs.declared.Put.the-variants as put
+use Rattle.event_rooms.specs.Out.{Rooms, Out}
 use Rattle.vecmarks.specs.declared.VecBufferInfo.{VecBufferInfo}
 use Rattle.vecmarks.specs.Info.{infoAt, isQuiet}
 use Rattle.vecbuffer.specs.Stands.{flagsAt}

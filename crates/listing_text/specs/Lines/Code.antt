@@ -15,10 +15,10 @@ use Rattle.states.specs.declared.States.{States}
 use Rattle.states.specs.declared.States.the-variants.{Two, Nine}
 use Rattle.records.specs.declared.Record.{Record}
 use Rattle.records.specs.declared.Record.the-variants.{Time, Value, Real}
-use Rattle.records.specs.declared.Next.{Next}
-use Rattle.records.specs.declared.Next.the-variants.{Event, End, Bad}
-use Rattle.records.specs.Stream.{nextEvent, inValues}
-use Rattle.records.specs.Stream.Laws.{found-event, past-end}
+use Rattle.event_streams.specs.declared.Next.{Next}
+use Rattle.event_streams.specs.declared.Next.the-variants.{Event, End, Bad}
+use Rattle.event_streams.specs.Stream.{nextEvent, inValues}
+use Rattle.event_streams.specs.Stream.Laws.{found-event, past-end}
 use Rattle.listing_text.specs.declared.lines.Progress.{Progress}
 use Rattle.listing_text.specs.declared.lines.Turn.{Turn}
 use Rattle.listing_text.specs.declared.lines.Turn.the-variants.{More, Over}

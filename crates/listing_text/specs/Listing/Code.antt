@@ -11,7 +11,7 @@ use lib.Seq.{length-take-le, take-all}
 use Rattle.tables.specs.Lists.{Lists}
 use Rattle.answers.specs.declared.Answer.{Answer}
 use Rattle.entries.specs.Entries.{readSections}
-use Rattle.reading_ends.specs.Reading.{leftOf, lentOf}
+use Rattle.left_buffers.specs.Left.{leftOf, lentOf}
 use Rattle.preamble.specs.declared.Opened.{Opened}
 use Rattle.preamble.specs.declared.Opened.the-variants as opened
 use Rattle.plain_text.specs.Text.{Holds}

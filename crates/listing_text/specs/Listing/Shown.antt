@@ -17,11 +17,11 @@ use Rattle.states.specs.declared.States.{States}
 use Rattle.states.specs.declared.States.the-variants.{Two, Nine}
 use Rattle.records.specs.declared.Record.{Record}
 use Rattle.records.specs.declared.Record.the-variants.{Time, Value, Real}
-use Rattle.records.specs.declared.Next.the-variants as next
+use Rattle.event_streams.specs.declared.Next.the-variants as next
 use Rattle.records.specs.Event.{Event, time, value, real, recordOf, recordBytes, eventValue}
 use Rattle.records.specs.Event.Laws.{length-time, length-value, length-real}
-use Rattle.records.specs.Stream.{eventLength, recordAt, isTime, inValues, judged, nextEvent}
-use Rattle.records.specs.Stream.Laws.{past-end}
+use Rattle.event_streams.specs.Stream.{eventLength, recordAt, isTime, inValues, judged, nextEvent}
+use Rattle.event_streams.specs.Stream.Laws.{past-end}
 use Rattle.gather.specs.Run.Rendered.{rendered, valuesOf}
 use Rattle.section_scan.specs.Sections.{scanSections}
 use Rattle.answers.specs.Outcome.{Left}

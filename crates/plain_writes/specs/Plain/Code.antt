@@ -20,12 +20,12 @@ use Rattle.states.specs.declared.States.the-variants.{Two, Nine}
 use Rattle.tables.specs.Lists.{nth}
 use Rattle.tables.specs.Checks.Laws.{nth-less}
 use Rattle.values.specs.Value.{mostOf, Suits}
-use Rattle.records.specs.declared.Counts.{Counts}
-use Rattle.records.specs.declared.Put.{Put}
-use Rattle.records.specs.declared.Put.the-variants.{Done, Full}
+use Rattle.event_rooms.specs.declared.Counts.{Counts}
+use Rattle.event_rooms.specs.declared.Put.{Put}
+use Rattle.event_rooms.specs.declared.Put.the-variants.{Done, Full}
 use Rattle.records.specs.declared.Record.the-variants.{Value}
 use Rattle.records.specs.Event.{value, real, recordBytes}
-use Rattle.records.specs.Out.Laws.{EventsRoom, Appends, roomFor, room-fits, counted, value-full, value-done}
+use Rattle.event_rooms.specs.Out.Laws.{EventsRoom, Appends, roomFor, room-fits, counted, value-full, value-done}
 use Rattle.gather.specs.Run.{alone}
 use Rattle.gather.specs.Writes.{Alone}
 use Rattle.plain_writes.specs.Plain.{plainStates, plainValue, Fitting, Plain, AloneAt}

@@ -1,6 +1,6 @@
 -- Written by tools/proof-answers from proofs.map.
 -- `reading_ends::refuse` meets its contract: each need follows from `refused-laws`. Assumes nothing.
-use Rattle.reading_ends.specs.Reading.{refused-laws}
+use Rattle.left_buffers.specs.Left.{refused-laws}
 use borrow.Author.Needs.{needs}
 use Rattle.reading_ends.proofs.refuse.Statement.{statement}
 use Rattle.reading_ends.proofs.refuse.Tie as tie

@@ -23,9 +23,9 @@ use Rattle.step_ends.specs.Steps as steps
 use Rattle.sessions.specs.declared.Bench.{Bench}
 use Rattle.sessions.specs.Places.{isFree, placeOf, placeFor, counted, dropped, empty}
 use Rattle.sessions.specs.Places.Laws.{place-is}
-use Rattle.fragments.specs.Output.{fragment, closed, held, outBytes, heldAt, heldFrom, heldOf}
-use Rattle.fragments.specs.Output as output
-use Rattle.fragments.specs.Output.Laws.{bytes-append}
+use Rattle.fragment_records.specs.Output.{fragment, closed, held, outBytes, heldAt, heldFrom, heldOf}
+use Rattle.fragment_records.specs.Output as output
+use Rattle.fragment_records.specs.Output.Laws.{bytes-append}
 use Rattle.fragments.specs.Counting.{closes, closedOf}
 use Rattle.bench.specs.Bench as benching
 use Rattle.courses.specs.Course.{Course, bytesOf, Faults}

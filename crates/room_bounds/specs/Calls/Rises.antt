@@ -16,10 +16,10 @@ use Rattle.numbers.specs.Fixed.{big}
 use Rattle.rules.specs.Vector.Laws.{by-test}
 use Rattle.records.specs.declared.Record.{Record}
 use Rattle.records.specs.declared.Record.the-variants.{Time, Value, Real}
-use Rattle.records.specs.declared.Next.{Next}
-use Rattle.records.specs.declared.Next.the-variants as next
-use Rattle.records.specs.Stream.{eventLength, recordAt, isTime, nextEvent}
-use Rattle.records.specs.Stream.Laws.{Stands, Found, found}
+use Rattle.event_streams.specs.declared.Next.{Next}
+use Rattle.event_streams.specs.declared.Next.the-variants as next
+use Rattle.event_streams.specs.Stream.{eventLength, recordAt, isTime, nextEvent}
+use Rattle.event_streams.specs.Stream.Laws.{Stands, Found, found}
 use Rattle.encoder.specs.Rule.Keeping.Laws.{next-is}
 use Rattle.step_ends.specs.declared.Names.{Names}
 use Rattle.step_ends.specs.declared.Line.{Line}

@@ -10,10 +10,10 @@ use lib.ListN.{length, length-append}
 use Rattle.slices.specs.Choice.{cond-ind}
 use Rattle.slices.specs.Splice.{part}
 use Rattle.slices.specs.Splice.Laws.{length-part}
-use Rattle.records.specs.declared.Next.{Next}
-use Rattle.records.specs.declared.Next.the-variants.{Event, End, Bad}
-use Rattle.records.specs.Stream.{nextEvent}
-use Rattle.records.specs.Stream.Laws.{found-event}
+use Rattle.event_streams.specs.declared.Next.{Next}
+use Rattle.event_streams.specs.declared.Next.the-variants.{Event, End, Bad}
+use Rattle.event_streams.specs.Stream.{nextEvent}
+use Rattle.event_streams.specs.Stream.Laws.{found-event}
 use Rattle.encoder.specs.declared.Clock.{Clock}
 use Rattle.encoder.specs.Rule.{keeps, ticks, times}
 use Rattle.encoder.specs.Rule.Keeping.{unset}

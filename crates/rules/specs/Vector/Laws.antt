@@ -149,7 +149,7 @@ fired-any false c v h = h
 
 pub cleared-clash : (v : Vec) (x : Write) → clashes (cleared v) x ≡ false
 unfolding clashes cleared
-cleared-clash v x = ap (λ (m : Bool). m && not (eqb (x .value) (getD (v .vals) (x .bit) 0))) (getD-clear (length (v .marks)) (x .bit))
+cleared-clash v x = rw (getD-clear (length (v .marks)) (x .bit)) refl
 
 pub fired-clash : (t : Bool) (c : Cause) (v : Vec) (x : Write) → clashes v x ≡ t → clashes ((fires t c v) .1) x ≡ false
 unfolding fires

@@ -6,7 +6,7 @@ use mathlib.Core.Bool.{true}
 use mathlib.Core.List.{List, [], _∷_, _++_}
 use Rattle.slices.specs.Splice.{part}
 use Rattle.numbers.specs.Fixed.{big, bigBytes}
-use Rattle.records.specs.Stream.{eventLength, recordAt, isTime, inValues, judged, nextEvent}
+use Rattle.event_streams.specs.Stream.{eventLength, recordAt, isTime, inValues, judged, nextEvent}
 use Rattle.step_ends.specs.declared.Names.{Names}
 use Rattle.step_ends.specs.declared.Watch.{Watch}
 use Rattle.step_ends.specs.Steps.{lineOf, twoOf, suits, shows, seeTime, seeValue, seeReal, seeEvent, seeNext, see, Steps, step, done, refused, lastStep, onSeen, stepsFrom, stepEnds, rose, risesFrom, rises}

@@ -11,9 +11,9 @@ use lib.Dec.{leb, eqb}
 use Rattle.slices.specs.Choice.{cond-ind}
 use Rattle.records.specs.declared.Record.{Record}
 use Rattle.records.specs.declared.Record.the-variants.{Time, Value, Real}
-use Rattle.records.specs.declared.Next.{Next}
-use Rattle.records.specs.Stream.{eventLength, recordAt, isTime, inValues, judged, nextEvent}
-use Rattle.records.specs.Stream.Laws.{past-end}
+use Rattle.event_streams.specs.declared.Next.{Next}
+use Rattle.event_streams.specs.Stream.{eventLength, recordAt, isTime, inValues, judged, nextEvent}
+use Rattle.event_streams.specs.Stream.Laws.{past-end}
 use Rattle.step_ends.specs.declared.Names.{Names}
 use Rattle.step_ends.specs.declared.Line.{Line}
 use Rattle.step_ends.specs.declared.Line.the-variants.{Session, Strobe, Close, Other}

@@ -15,12 +15,12 @@ use Rattle.rules.specs.Vector.{Write, actsEarly, any, all, cleared, fires, clas
 use Rattle.rules.specs.Vector.Laws.{cleared-clash}
 use Rattle.rules.specs.Gather.{Act, write, stepEnd, Happening, of, State, width, bitWrite, does}
 use Rattle.rules.specs.Gather.Laws.{with-same}
-use Rattle.records.specs.declared.Counts.{Counts}
-use Rattle.records.specs.declared.Put.{Put}
-use Rattle.records.specs.declared.Put.the-variants.{Done, Full}
+use Rattle.event_rooms.specs.declared.Counts.{Counts}
+use Rattle.event_rooms.specs.declared.Put.{Put}
+use Rattle.event_rooms.specs.declared.Put.the-variants.{Done, Full}
 use Rattle.records.specs.Event.{Event}
-use Rattle.records.specs.Out.{Rooms, Out, appendAll}
-use Rattle.records.specs.Out.Laws.{Written, Appends, all-append, all-none, roomFor}
+use Rattle.event_rooms.specs.Out.{Rooms, Out, appendAll}
+use Rattle.event_rooms.specs.Out.Laws.{Written, Appends, all-append, all-none, roomFor}
 use Rattle.vecmarks.specs.Info.{isSecond, hasMarks, withMark, marksOf}
 use Rattle.vecmarks.specs.Full.{fullIn}
 use Rattle.vecstarts.specs.Numbers.{listedIn}

@@ -8,11 +8,11 @@ use native.Mathlib.Omega.{arith}
 use borrow.Author.Tests.{not-true, not-false}
 use lib.ListN.{length}
 use Rattle.slices.specs.Splice.{splice}
-use Rattle.records.specs.declared.Counts.{Counts}
-use Rattle.records.specs.declared.Put.the-variants.{Done, Full}
+use Rattle.event_rooms.specs.declared.Counts.{Counts}
+use Rattle.event_rooms.specs.declared.Put.the-variants.{Done, Full}
 use Rattle.records.specs.declared.Record.the-variants.{Value}
 use Rattle.records.specs.Event.{recordBytes}
-use Rattle.records.specs.Out.Laws.{roomFor, room-fits, counted}
+use Rattle.event_rooms.specs.Out.Laws.{roomFor, room-fits, counted}
 use Rattle.vecmarks.specs.Info.{Inside, isSecond, hasMarks, withMark, marksOf}
 use Rattle.vecmarks.specs.Full.{fullIn}
 use Rattle.vecbuffer.specs.Changes as change

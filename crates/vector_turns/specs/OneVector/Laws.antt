@@ -15,10 +15,10 @@ use Rattle.tables.specs.Layout.Laws.{count-is}
 use Rattle.tables.specs.Checks.Laws.{nth-less}
 use Rattle.values.specs.Value.{Suits}
 use Rattle.rules.specs.Gather.{State, stepEnd}
-use Rattle.records.specs.declared.Counts.{Counts}
-use Rattle.records.specs.declared.Put.{Put}
-use Rattle.records.specs.declared.Put.the-variants.{Done}
-use Rattle.records.specs.Out.{Rooms, Out}
+use Rattle.event_rooms.specs.declared.Counts.{Counts}
+use Rattle.event_rooms.specs.declared.Put.{Put}
+use Rattle.event_rooms.specs.declared.Put.the-variants.{Done}
+use Rattle.event_rooms.specs.Out.{Rooms, Out}
 use Rattle.vecmarks.specs.Info.{isSecond}
 use Rattle.vecstarts.specs.Numbers.{listedIn}
 use Rattle.vecbuffer.specs.Changes as change

@@ -9,7 +9,7 @@ use Rattle.numbers.specs.Fixed.Laws.{Bytes}
 use Rattle.tables.specs.Lists.{Lists}
 use Rattle.rules.specs.Vector.{Write, put, rewritten, complete, Item, wrote, Vec, all, act, fires, clashes, stored, actsEarly}
 use Rattle.rules.specs.Gather.{Act, time, write, stepEnd, of, State, begin, width, bitWrite, toVector, toward, does}
-use Rattle.records.specs.Out.{Rooms, Out, empty, appendAll}
+use Rattle.event_rooms.specs.Out.{Rooms, Out, empty, appendAll}
 use Rattle.rules.specs.Scan.{Scan, say, done, fault}
 use Rattle.gather.specs.Run.{gathers, ofVector, eventsOf, out, fitted, acted, after, run, runAll}
 use Rattle.changes.specs.Changes.{scanChanges}

@@ -15,9 +15,9 @@ use Rattle.slices.specs.Choice.{cond-ind}
 use Rattle.slices.specs.Splice.{part}
 use Rattle.slices.specs.Splice.Laws.{length-part}
 use Rattle.records.specs.declared.Record.{Record}
-use Rattle.records.specs.declared.Next.{Next}
-use Rattle.records.specs.declared.Next.the-variants.{Event, End, Bad}
-use Rattle.records.specs.Stream.{eventLength, recordAt, isTime, inValues, judged, nextEvent}
+use Rattle.event_streams.specs.declared.Next.{Next}
+use Rattle.event_streams.specs.declared.Next.the-variants.{Event, End, Bad}
+use Rattle.event_streams.specs.Stream.{eventLength, recordAt, isTime, inValues, judged, nextEvent}
 use Rattle.encoder.specs.declared.Clock.{Clock}
 use Rattle.encoder.specs.Rule.{keeps, ticks, times, Kept, ruled, one, rule, timeRule}
 use Rattle.encoder.specs.Rule.Keeping.{Piece, pieceAt, recordsFrom, records, bytesOf, timesOf, keptOf, unset, nothing, RecordNumber, Keeps}

@@ -12,8 +12,8 @@ use lib.Dec.{leb}
 use Rattle.slices.specs.Choice.{cond-ind}
 use Rattle.slices.specs.Splice.{part}
 use Rattle.slices.specs.Splice.Laws.{length-part}
-use Rattle.records.specs.declared.Next.the-variants.{Event}
-use Rattle.records.specs.Stream.{eventLength, recordAt, nextEvent}
+use Rattle.event_streams.specs.declared.Next.the-variants.{Event}
+use Rattle.event_streams.specs.Stream.{eventLength, recordAt, nextEvent}
 use Rattle.encoder.specs.declared.Clock.{Clock}
 use Rattle.encoder.specs.Rule.{keeps, ticks, times, Kept, refused, one, rule, timeRule}
 use Rattle.encoder.specs.Rule.Keeping.{Piece, pieceAt, recordsFrom, records, bytesOf, keptOf, unset, nothing, BadRecord, RefusedFrom, Refusal}

@@ -10,7 +10,7 @@ use Rattle.tables.specs.Lists.{Lists, nth}
 use Rattle.rules.specs.Gather.{Act, Happening, at, single, of, ends, State, happens}
 use Rattle.rules.specs.Gather.Laws.{stateAfter}
 use Rattle.records.specs.Event.{time}
-use Rattle.records.specs.Out.{Rooms, Out, appendAll}
+use Rattle.event_rooms.specs.Out.{Rooms, Out, appendAll}
 use Rattle.rules.specs.Scan.{Scan, say, done, fault, acts, Ends, Faults, Says}
 use Rattle.gather.specs.Run.{alone, ofVector, eventsOf, went, out, fitted, acted, after, run}
 use Rattle.gather.specs.Run.Rendered.{Rendered, Within}

@@ -12,7 +12,7 @@ use lib.ListN.{length, length-append}
 use Rattle.numbers.specs.Fixed.{bigBytes}
 use Rattle.tables.specs.Checks.Laws.{both}
 use Rattle.records.specs.Event.{Event, time, value, real, recordOf, recordBytes, eventValue}
-use Rattle.records.specs.Out.{Rooms, Out, fits, appended, append, appendAll}
+use Rattle.event_rooms.specs.Out.{Rooms, Out, fits, appended, append, appendAll}
 use Rattle.gather.specs.Run.Rendered.{rendered, valuesOf, stepsOf, Rendered, Within, Misfit}
 
 rendered-none : (o : Out) → Rendered o [] o
