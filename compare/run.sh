@@ -5,7 +5,7 @@
 #   PORT        the archive to link, and the others beside it (default: made by `rt staticlib`, or target/staticlib/libdoorquill.a); none: without it
 #   SAMPLES     real files (default: ../shared/samples beside the repository), left out where they're missing
 #   LIST        the fixed list, to be put to every side again (default: left out)
-#   SEED, SECTIONS, CHANGES, EVENTS, STREAMS, INPUTS   what `compare run`, `compare written` and `compare dropin` take
+#   SEED, SECTIONS, CHANGES, EVENTS, STREAMS, INPUTS, REQUESTS   what `compare run`, `compare written`, `compare dropin` and `compare requests` take
 # On x86-64 any rustc from 1.63 on will do. On Arm the program is built for x86-64 by Debian's rustc and run by an emulator, on fewer inputs.
 set -u
 here=$(cd "$(dirname "$0")" && pwd)
@@ -43,7 +43,7 @@ for file in ghw/signals.rs ghw/common.rs signal/value.rs wavemem.rs; do
 done
 
 under='' more=''
-sections=200000 changes=100000 events=100000 streams=30000 inputs=50000
+sections=200000 changes=100000 events=100000 streams=30000 inputs=50000 requests=20000
 case $(uname -m) in
 x86_64)
     command -v "${RUSTC:-rustc}" > /dev/null || install rustc
@@ -60,7 +60,7 @@ aarch64)
     TARGET_FLAGS="--target x86_64-unknown-linux-gnu -C linker=x86_64-linux-gnu-gcc"
     export RUSTC TARGET_FLAGS
     under=qemu-x86_64
-    more=--no-exhaustive sections=40000 changes=20000 events=20000 streams=2000 inputs=10000
+    more=--no-exhaustive sections=40000 changes=20000 events=20000 streams=2000 inputs=10000 requests=4000
     ;;
 *) left_out "neither x86-64 nor Arm" ;;
 esac
@@ -83,6 +83,10 @@ export PORT
 "$here/build.sh" || exit 1
 compare() { $under "$OUT/compare" "$@"; }
 compare readings || exit 1
+real=''
+[ -d "$samples" ] && real="--samples $samples"
+# shellcheck disable=SC2086
+compare requests --seed "${SEED:-1}" --inputs "${REQUESTS:-$requests}" $real || exit 1
 if [ -d "$samples" ]; then compare samples "$samples" || exit 1; fi
 if [ -f "${LIST:-}" ]; then compare replay "$LIST" || exit 1; fi
 # shellcheck disable=SC2086
@@ -90,8 +94,6 @@ compare run --seed "${SEED:-1}" --sections "${SECTIONS:-$sections}" --changes "$
 # shellcheck disable=SC2086
 compare written --seed "${SEED:-1}" --streams "${STREAMS:-$streams}" $more || exit 1
 if [ -f "$(dirname "${PORT:-.}")/libbench.a" ]; then
-    real=''
-    [ -d "$samples" ] && real="--samples $samples"
     # shellcheck disable=SC2086
     compare dropin --seed "${SEED:-1}" --inputs "${INPUTS:-$inputs}" $real || exit 1
 fi

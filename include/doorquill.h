@@ -119,8 +119,10 @@ typedef struct doorquill_vector {
     uint8_t *events, size_t events_len, uint8_t *values, size_t values_len, uint8_t *room, size_t room_len,             \
         uint32_t *list, size_t list_len
 
-/* Section reading. 13 event bytes for each section byte are always enough. */
-doorquill_answer doorquill_read_sections(DOORQUILL_TABLES, bool big_endian, const uint8_t *input, size_t input_len, DOORQUILL_ROOMS);
+/* Section reading. 13 event bytes for each section byte are always enough. Reals are little-endian whatever the flag says, as the Rust reads
+ * them, or follow it. */
+doorquill_answer doorquill_read_sections(DOORQUILL_TABLES, bool big_endian, bool reals_by_flag, const uint8_t *input, size_t input_len,
+                                         DOORQUILL_ROOMS);
 
 /* The same over vector records; flat is working room, four numbers for each vector. */
 doorquill_answer doorquill_read_sections_lent(DOORQUILL_SIGNAL_LISTS, const doorquill_vector *vectors, size_t vectors_len,

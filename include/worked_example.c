@@ -50,8 +50,8 @@ int main(void)
     /* room that is always enough for events, and what check 6 asks for: 1 value byte, 1 mask byte, 2 flag bytes, 1 number */
     uint8_t events[13 * sizeof input], values[64], room[4];
     uint32_t list[1];
-    doorquill_answer answer = doorquill_read_sections(kinds, 4, refs, 4, vecs, 4, mins, 1, maxs, 1, states, 1, vec_refs, 1, false, input,
-                                                      sizeof input, events, sizeof events, values, sizeof values, room, sizeof room, list, 1);
+    doorquill_answer answer = doorquill_read_sections(kinds, 4, refs, 4, vecs, 4, mins, 1, maxs, 1, states, 1, vec_refs, 1, false, false,
+                                                      input, sizeof input, events, sizeof events, values, sizeof values, room, sizeof room, list, 1);
     if (answer.number != DOORQUILL_DONE) {
         printf("refused %" PRIu64 " %" PRIu64 "\n", answer.number, answer.place);
         return 1;

@@ -112,7 +112,7 @@ fn walk(input: &Input) -> u64 {
 mod port {
     use crate::host::{self, Out};
     use crate::inputs::{self, Input, Records, SECTIONS};
-    use crate::plain::{self, Answer, Rooms, Tables, MOST_OTHER};
+    use crate::plain::{self, Answer, Modes, Rooms, Tables, MOST_OTHER};
 
     fn lent(t: &Tables) -> host::Tables<'_> {
         host::Tables {
@@ -147,7 +147,7 @@ mod port {
         pub fn round(&mut self, input: &Input) -> (i64, Answer) {
             let (tables, out) = (lent(&input.tables), self.out());
             let started = super::clock();
-            let answer = host::read_sections(&tables, input.big, &input.bytes, out);
+            let answer = host::read_sections(&tables, input.big, Modes::default(), &input.bytes, out);
             (super::clock() - started, answer)
         }
     }

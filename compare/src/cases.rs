@@ -1,6 +1,6 @@
 //! One call of an entry with everything that it is lent, and its form as text: lines of a word and what follows it.
 //! Numbers stand in lists, `v*k` repeats; bytes stand in hex, `hh*k` repeats a byte.
-use crate::plain::{Answer, Outcome, Rooms, Tables};
+use crate::plain::{Answer, Modes, Outcome, Rooms, Tables};
 use std::fmt::Write;
 
 #[derive(Clone, Copy, Debug, PartialEq, Eq, Hash, PartialOrd, Ord)]
@@ -43,11 +43,13 @@ pub struct Case {
     /// The time rule's value buffer; empty for the other entries.
     pub values: Vec<u8>,
     pub rooms: Rooms,
+    /// Document 02's manners of reading.
+    pub modes: Modes,
 }
 
 impl Case {
     pub fn new(entry: Entry, tables: &Tables, input: Vec<u8>) -> Case {
-        Case { entry, tables: tables.clone(), big: false, input, values: vec![], rooms: AMPLE }
+        Case { entry, tables: tables.clone(), big: false, input, values: vec![], rooms: AMPLE, modes: Modes::default() }
     }
 
     pub fn text(&self) -> String {
@@ -74,10 +76,20 @@ impl Case {
                 writeln!(out, "{} {}", name, hex(bytes)).unwrap();
             }
         }
+        let mut modes = self.modes;
+        let on: String = by_name(&mut modes).iter().filter(|(_, on)| **on).map(|(name, _)| format!(" {}", name)).collect();
+        if !on.is_empty() {
+            writeln!(out, "modes{}", on).unwrap();
+        }
         let r = &self.rooms;
         writeln!(out, "rooms {} {} {} {} {}", r.events, r.values, r.room, r.list, r.flat).unwrap();
         out
     }
+}
+
+/// Document 02's modes by their names.
+fn by_name(modes: &mut Modes) -> [(&'static str, &mut bool); 1] {
+    [("reals_by_flag", &mut modes.reals_by_flag)]
 }
 
 /// Long runs of one number as `v*k`.
@@ -190,6 +202,13 @@ pub fn parse(text: &str) -> Result<Vec<Named>, String> {
                 let r: Vec<usize> = list_of(rest)?;
                 let r: [usize; 5] = r.try_into().map_err(|_| format!("five rooms: {}", line))?;
                 case.rooms = Rooms { events: r[0], values: r[1], room: r[2], list: r[3], flat: r[4] };
+            }
+            "modes" => {
+                for word in rest {
+                    let mut modes = by_name(&mut case.modes);
+                    let found = modes.iter_mut().find(|(name, _)| name == word);
+                    *found.ok_or(format!("no such mode: {}", line))?.1 = true;
+                }
             }
             "want" => named.want = Some(rest.join(" ")),
             _ => return Err(format!("unknown line: {}", line)),

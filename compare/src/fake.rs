@@ -70,13 +70,14 @@ pub unsafe extern "C" fn doorquill_read_sections(
     kinds: *const u8, kinds_len: usize, refs: *const u32, refs_len: usize, vecs: *const u32, vecs_len: usize,
     mins: *const u32, mins_len: usize, maxs: *const u32, maxs_len: usize,
     states: *const u8, states_len: usize, vec_refs: *const u32, vec_refs_len: usize,
-    big_endian: bool, input: *const u8, input_len: usize,
+    big_endian: bool, reals_by_flag: bool, input: *const u8, input_len: usize,
     events: *mut u8, events_len: usize, values: *mut u8, values_len: usize,
     room: *mut u8, room_len: usize, list: *mut u32, list_len: usize,
 ) -> Answer {
     let t = tables(kinds, kinds_len, refs, refs_len, vecs, vecs_len, mins, mins_len, maxs, maxs_len, states, states_len, vec_refs, vec_refs_len);
     let rooms = Rooms { events: events_len, values: values_len, room: room_len, list: list_len, flat: 0 };
-    let o = plain::read_sections(&t, big_endian, from_raw_parts(input, input_len), &rooms);
+    let modes = plain::Modes { reals_by_flag };
+    let o = plain::read_sections_in(&t, modes, big_endian, from_raw_parts(input, input_len), &rooms);
     if fault("input") && input_len > 0 {
         *(input as *mut u8) ^= 1;
     }

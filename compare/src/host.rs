@@ -30,6 +30,7 @@ impl Host {
 mod linked {
     use super::{Answered, Host};
     use crate::cases::{Case, Entry};
+    use crate::plain::Modes;
     use crate::raw::{self, Answer, Vector};
 
     #[cfg(fake)]
@@ -55,13 +56,13 @@ mod linked {
 
     // The functions below hand on slices as pointers and lengths and nothing else: the port reads and writes within them only.
     #[rustfmt::skip]
-    pub fn read_sections(t: &Tables, big_endian: bool, input: &[u8], o: Out) -> Answer {
+    pub fn read_sections(t: &Tables, big_endian: bool, modes: Modes, input: &[u8], o: Out) -> Answer {
         unsafe {
             raw::doorquill_read_sections(
                 t.kinds.as_ptr(), t.kinds.len(), t.refs.as_ptr(), t.refs.len(), t.vecs.as_ptr(), t.vecs.len(),
                 t.mins.as_ptr(), t.mins.len(), t.maxs.as_ptr(), t.maxs.len(),
                 t.states.as_ptr(), t.states.len(), t.vec_refs.as_ptr(), t.vec_refs.len(),
-                big_endian, input.as_ptr(), input.len(),
+                big_endian, modes.reals_by_flag, input.as_ptr(), input.len(),
                 o.events.as_mut_ptr(), o.events.len(), o.values.as_mut_ptr(), o.values.len(),
                 o.room.as_mut_ptr(), o.room.len(), o.list.as_mut_ptr(), o.list.len(),
             )
@@ -230,6 +231,9 @@ mod linked {
 
         /// The port's answer to a case, or what it did to lent memory that it must not.
         pub fn call(&mut self, case: &Case) -> Option<Result<Answered, String>> {
+            if !port_has(case) {
+                return None;
+            }
             self.calls += 1;
             Some(match case.entry {
                 Entry::Events => time_rule_checked(case),
@@ -237,6 +241,13 @@ mod linked {
                 _ => reading_checked(case),
             })
         }
+    }
+
+    /// Has the port what the case asks of document 02's requests? A request's landing takes its line away here, and hands on what the
+    /// call is then lent.
+    fn port_has(_case: &Case) -> bool {
+        let not_there_yet: [bool; 0] = [];
+        !not_there_yet.contains(&true)
     }
 
     /// The seven lists, each between guards.
@@ -332,7 +343,7 @@ mod linked {
         let vectors = unsafe { std::slice::from_raw_parts(records.see().as_ptr() as *const Vector, count) };
         let out = Out { events: events.inside(), values: values.inside(), room: room.inside(), list: list.inside() };
         let answer = match case.entry {
-            Entry::Sections => read_sections(&tables, case.big, input.see(), out),
+            Entry::Sections => read_sections(&tables, case.big, case.modes, input.see(), out),
             Entry::Changes => read_changes(&tables, input.see(), out),
             _ => read_sections_lent(&tables, vectors, flat.inside(), case.big, input.see(), out),
         };

@@ -3,7 +3,8 @@
 use crate::cases::{answer_text, outcome_text, Case, Entry};
 use crate::circle;
 use crate::host::Host;
-use crate::plain::{self, Answer, Outcome, Why};
+use crate::plain::{self, Answer, Modes, Outcome, Why};
+use crate::requests;
 use crate::written;
 use calls::{End, Run, What};
 
@@ -30,7 +31,7 @@ pub struct Verdict {
 
 pub fn plain_outcome(case: &Case) -> Outcome {
     match case.entry {
-        Entry::Sections => plain::read_sections(&case.tables, case.big, &case.input, &case.rooms),
+        Entry::Sections => plain::read_sections_in(&case.tables, case.modes, case.big, &case.input, &case.rooms),
         Entry::Lent => plain::read_sections_lent(&case.tables, case.big, &case.input, &case.rooms),
         Entry::Changes => plain::read_changes(&case.tables, &case.input, &case.rooms),
         Entry::Events => plain::time_rule(&case.input, case.values.len(), case.rooms.events),
@@ -227,7 +228,7 @@ pub fn judge(case: &Case, host: &mut Host) -> Verdict {
     let plain = plain_outcome(case);
     let mut verdict = sides(case, &plain, host);
     if verdict.difference.is_none() {
-        verdict.difference = circle::laws(case, &plain, host).err();
+        verdict.difference = circle::laws(case, &plain, host).and_then(|()| requests::laws(case, &plain, host)).err();
     }
     verdict
 }
@@ -237,7 +238,8 @@ pub fn sides(case: &Case, plain: &Outcome, host: &mut Host) -> Verdict {
     let number = plain.answer.number;
     let mut verdict = Verdict { number, named: None, difference: None };
     let differs = |who: &str, what: String| Some(format!("plain: {}\n{}: {}", outcome_text(plain), who, what));
-    if !case.entry.circle() && (number == 0 || number >= 7) {
+    // Of document 02's modes the crate knows nothing; their laws lead back to a case without them.
+    if !case.entry.circle() && case.modes == Modes::default() && (number == 0 || number >= 7) {
         for (debug, who) in [(false, "the crate"), (true, "the crate, checks on")] {
             match beside(case, plain, &crate_run(case, debug), debug) {
                 Ok(named) => verdict.named = named,

@@ -15,6 +15,7 @@ mod plain;
 #[path = "../../rust/doorquill/src/raw.rs"]
 mod raw;
 mod readings;
+mod requests;
 mod runs;
 mod sample;
 mod written;
@@ -29,6 +30,8 @@ compare self ..           the same, but says that it was run without the port
 compare written [--seed S] [--streams N] [--no-exhaustive]
     change streams written as sections and read by all, and sections read back, until N streams went round
 compare readings          the inputs with chosen answers
+compare requests [--seed S] [--inputs N] [--samples DIR]
+    document 02's requests: inputs with chosen answers, and laws on N random ones for each request
 compare samples DIR       real files: NAME.ghw, NAME.listing-in, NAME.listing-out
 compare dropin [--seed S] [--inputs N] [--samples DIR]
     Doorquill's file in place of the crate's own signals.rs (rust/wellen), beside that file
@@ -138,6 +141,10 @@ fn main() {
         Some("dropin") => dropin(&args),
         Some("limits") => limits(),
         Some("readings") => readings::readings(),
+        Some("requests") => {
+            let dir = args.iter().position(|a| a == "--samples").and_then(|i| args.get(i + 1));
+            requests::requests(option(&args, "--seed", 1), option(&args, "--inputs", 5_000), dir.map(String::as_str))
+        }
         Some("samples") => readings::samples(&file()),
         Some("case") => readings::cases(&file()),
         Some("sample") => sample::write(&file()),

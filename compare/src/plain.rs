@@ -18,6 +18,13 @@ pub struct Rooms {
     pub flat: usize,
 }
 
+/// Document 02's manners of reading; with all of them off a reading is document 01's.
+#[derive(Clone, Copy, Debug, Default, PartialEq, Eq)]
+pub struct Modes {
+    /// W3: "a second mode that follows the flag", for the eight bytes of kind 6 in sections.
+    pub reals_by_flag: bool,
+}
+
 /// Why an id was refused: what told it from other refusals of the same number.
 #[derive(Clone, Copy, Debug, PartialEq, Eq)]
 pub enum Why {
@@ -345,6 +352,7 @@ struct Input<'a> {
     bytes: &'a [u8],
     at: usize,
     big: bool,
+    modes: Modes,
 }
 
 impl<'a> Input<'a> {
@@ -420,6 +428,10 @@ fn value(t: &Tables, id: usize, input: &mut Input, acts: &mut dyn Acts) -> Resul
     let record = input.at;
     let value = match t.kinds[id - 1] {
         5 => Value::Wide(input.signed()? as u64),
+        6 if input.modes.reals_by_flag => {
+            let bytes = input.take(8)?;
+            Value::Wide(input.fixed(bytes))
+        }
         // "eight bytes, always little-endian, the flag aside"
         6 => Value::Wide(input.take(8)?.iter().rev().fold(0, |n, b| n << 8 | u64::from(*b))),
         kind => {
@@ -507,17 +519,21 @@ fn section(t: &Tables, input: &mut Input, acts: &mut dyn Acts) -> Result<bool, R
 }
 
 /// All sections up to the tailer: the bytes read.
-pub fn sections(t: &Tables, big: bool, bytes: &[u8], acts: &mut dyn Acts) -> Result<usize, Refusal> {
-    let mut input = Input { bytes, at: 0, big };
+pub fn sections_in(t: &Tables, modes: Modes, big: bool, bytes: &[u8], acts: &mut dyn Acts) -> Result<usize, Refusal> {
+    let mut input = Input { bytes, at: 0, big, modes };
     while !section(t, &mut input, acts)? {}
     Ok(input.at)
+}
+
+pub fn sections(t: &Tables, big: bool, bytes: &[u8], acts: &mut dyn Acts) -> Result<usize, Refusal> {
+    sections_in(t, Modes::default(), big, bytes, acts)
 }
 
 /// Each section's bytes, the tailer's last.
 pub fn cut<'a>(t: &Tables, big: bool, bytes: &'a [u8]) -> Result<Vec<&'a [u8]>, Refusal> {
     let mut made = Made::within(MOST_OTHER, MOST_OTHER);
     let mut acts = Reading::new(t, &mut made);
-    let mut input = Input { bytes, at: 0, big };
+    let mut input = Input { bytes, at: 0, big, modes: Modes::default() };
     let mut out = vec![];
     loop {
         let from = input.at;
@@ -529,10 +545,14 @@ pub fn cut<'a>(t: &Tables, big: bool, bytes: &'a [u8]) -> Result<Vec<&'a [u8]>, 
     }
 }
 
-pub fn read_sections(t: &Tables, big: bool, bytes: &[u8], rooms: &Rooms) -> Outcome {
+pub fn read_sections_in(t: &Tables, modes: Modes, big: bool, bytes: &[u8], rooms: &Rooms) -> Outcome {
     let mut made = Made::within(rooms.events, rooms.values);
-    let end = check(t, bytes.len(), rooms, None).and_then(|()| sections(t, big, bytes, &mut Reading::new(t, &mut made)));
+    let end = check(t, bytes.len(), rooms, None).and_then(|()| sections_in(t, modes, big, bytes, &mut Reading::new(t, &mut made)));
     made.outcome(end, true)
+}
+
+pub fn read_sections(t: &Tables, big: bool, bytes: &[u8], rooms: &Rooms) -> Outcome {
+    read_sections_in(t, Modes::default(), big, bytes, rooms)
 }
 
 /// The entry over lent vector records: `flat` lends four numbers for each vector.
@@ -605,16 +625,24 @@ pub fn read_changes(t: &Tables, bytes: &[u8], rooms: &Rooms) -> Outcome {
     made.outcome(end, true)
 }
 
+/// The bytes of an event record with its kind, where the kind is known.
+pub fn event_length(kind: u8) -> Option<usize> {
+    match kind {
+        1 => Some(9),
+        2 | 3 | 4 => Some(13),
+        _ => None,
+    }
+}
+
 fn kept(bytes: &[u8], values: usize, made: &mut Made) -> Result<usize, Refusal> {
     let mut last: Option<u64> = None;
     let mut skipping = false;
     let mut at = 0;
     while at < bytes.len() {
         let kind = bytes[at];
-        let length = match kind {
-            1 => 9,
-            2 | 3 | 4 => 13,
-            _ => return refuse(17, at),
+        let length = match event_length(kind) {
+            Some(length) => length,
+            None => return refuse(17, at),
         };
         if bytes.len() - at < length {
             return refuse(7, at);

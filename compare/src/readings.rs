@@ -78,17 +78,33 @@ fn sample(dir: &str, name: &str) -> Result<String, String> {
     ))
 }
 
+/// The names of the real files of a folder.
+fn names(dir: &str) -> Result<Vec<String>, String> {
+    let entries = std::fs::read_dir(dir).map_err(|e| format!("{}: {}", dir, e))?;
+    let name = |e: std::fs::DirEntry| e.file_name().to_str().and_then(|n| n.strip_suffix(".listing-in")).map(String::from);
+    let mut names: Vec<String> = entries.flatten().filter_map(name).collect();
+    names.sort();
+    Ok(names)
+}
+
+/// Each real file of a folder as a case of section reading, rooms ample.
+pub fn real_files(dir: &str) -> Result<Vec<Case>, String> {
+    let file = |name: &String| {
+        let input = std::fs::read(format!("{}/{}.listing-in", dir, name)).map_err(|e| format!("{}: {}", name, e))?;
+        let (t, big, from) = plain::preamble(&input).map_err(|r| format!("{}: preamble: {:?}", name, r))?;
+        Ok(Case { big, ..Case::new(Entry::Sections, &t, input[from..].to_vec()) })
+    };
+    names(dir)?.iter().map(file).collect()
+}
+
 pub fn samples(dir: &str) -> bool {
-    let mut names: Vec<String> = match std::fs::read_dir(dir) {
-        Ok(entries) => {
-            entries.flatten().filter_map(|e| e.file_name().to_str().and_then(|n| n.strip_suffix(".listing-in")).map(String::from)).collect()
-        }
-        Err(e) => {
-            println!("{}: {}", dir, e);
+    let names = match names(dir) {
+        Ok(names) => names,
+        Err(text) => {
+            println!("{}", text);
             return false;
         }
     };
-    names.sort();
     let mut good = !names.is_empty();
     for name in names {
         match sample(dir, &name) {

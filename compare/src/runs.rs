@@ -3,7 +3,7 @@ use crate::cases::{Case, Entry, AMPLE};
 use crate::gen::{self, Fault, Rng, Writer};
 use crate::host::Host;
 use crate::judge::{judge, plain_outcome, shrink, NAMED};
-use crate::plain::{self, Rooms, Tables, MOST_OTHER};
+use crate::plain::{self, Modes, Rooms, Tables, MOST_OTHER};
 use std::collections::BTreeMap;
 
 #[derive(Default)]
@@ -41,6 +41,17 @@ impl Session {
 
     pub fn total(&self, entry: Entry) -> u64 {
         self.counts.iter().filter(|((e, _), _)| *e == entry).map(|(_, c)| c).sum()
+    }
+
+    /// All cases, and how they were answered, in a line.
+    pub fn summary(&self) -> (u64, String) {
+        let mut by_number: BTreeMap<u64, u64> = BTreeMap::new();
+        for ((_, number), count) in &self.counts {
+            *by_number.entry(*number).or_default() += count;
+        }
+        let word = |number: &u64| if *number == 0 { "accepted".to_string() } else { format!("refused {}", number) };
+        let words: Vec<String> = by_number.iter().map(|(number, count)| format!("{} {}", word(number), count)).collect();
+        (by_number.values().sum(), words.join(", "))
     }
 
     pub fn report(&self, examples: bool) {
@@ -130,7 +141,7 @@ fn needs(t: &Tables) -> (usize, usize) {
 }
 
 /// The case with ample rooms, and, now and then, with each room exactly enough, one short, and less.
-fn with_rooms(s: &mut Session, rng: &mut Rng, case: Case) -> Go {
+pub fn with_rooms(s: &mut Session, rng: &mut Rng, case: Case) -> Go {
     let slack = rng.pick(&[0, 1, 40]);
     let case = fitted(case, slack);
     s.put(&case)?;
@@ -139,7 +150,7 @@ fn with_rooms(s: &mut Session, rng: &mut Rng, case: Case) -> Go {
             && case.tables.states.len() == case.tables.mins.len()
             && case.tables.vec_refs.len() == case.tables.mins.len();
         if even {
-            let mut lent = case.clone();
+            let mut lent = Case { modes: Modes::default(), ..case.clone() };
             lent.entry = Entry::Lent;
             s.put(&lent)?;
             if lent.rooms.flat > slack {

@@ -12,7 +12,8 @@ use crate::gathering;
 use crate::gen::{self, Rng};
 use crate::host::Host;
 use crate::judge::{judge, plain_outcome};
-use crate::plain::{Outcome, Rooms, Tables};
+use crate::plain::{Modes, Outcome, Rooms, Tables};
+use crate::requests::w03;
 use crate::runs::{random, worked_bytes, worked_tables};
 use std::collections::{BTreeMap, BTreeSet};
 
@@ -46,7 +47,7 @@ fn frame(case: &Case, o: &Outcome) -> Vec<u8> {
     };
     let numbers = [
         entry,
-        usize::from(case.big),
+        usize::from(case.big) + 2 * usize::from(case.modes.reals_by_flag),
         t.refs.len(),
         t.vecs.len(),
         t.mins.len(),
@@ -199,6 +200,13 @@ fn oracle() -> Vec<Case> {
     out
 }
 
+/// W3: reals in both modes and under both flags.
+fn reals() -> Vec<Case> {
+    let mut rng = Rng::new(30_000);
+    let cases = w03::listed(&mut rng, 12, |case| within(&roomed(&mut Rng::new(1), case.clone()), SMALL));
+    cases.into_iter().map(|case| roomed(&mut rng, case)).filter(|case| within(case, SMALL)).collect()
+}
+
 /// What a list has: counts by entry and answer, and the largest sizes.
 #[derive(Default)]
 struct Summary {
@@ -246,7 +254,7 @@ pub fn write(file: &str) -> bool {
     let mut host = Host::default();
     let mut bytes = vec![];
     let mut printed = String::new();
-    for (name, cases) in [("gathering", gathering::list()), ("readings", readings()), ("oracle", oracle())] {
+    for (name, cases) in [("gathering", gathering::list()), ("readings", readings()), ("oracle", oracle()), ("reals", reals())] {
         let from = bytes.len();
         let mut summary = Summary::default();
         bytes.extend(heading(name));
@@ -296,7 +304,9 @@ fn unframe(frame: &[u8]) -> (Case, [u64; 6], Vec<u8>, Vec<u8>) {
         states: take(number(8)),
     };
     let rooms = Rooms { events: number(13), values: number(14), room: number(15), list: number(16), flat: 0 };
-    let case = Case { entry, tables, big: number(1) == 1, input: take(number(9)), values: take(number(10)), rooms };
+    let input = take(number(9));
+    let modes = Modes { reals_by_flag: number(1) >= 2 };
+    let case = Case { big: number(1) % 2 == 1, modes, values: take(number(10)), rooms, ..Case::new(entry, &tables, input) };
     let answer = [17, 18, 19, 11, 12, 20].map(|i| number(i) as u64);
     let (events, values) = (take(number(11)), take(number(12)));
     assert_eq!(at, frame.len());

@@ -10,6 +10,7 @@ use Rattle.tables.specs.Checks.{unless, andThen}
 use Rattle.tables.specs.declared.Check.{Check}
 use Rattle.rules.specs.Scan as scan
 use Rattle.checks.specs.Checked.{checksWithoutRoom}
+use Rattle.values.specs.Value.{ordinary}
 use Rattle.section_scan.specs.Sections.{scanSections}
 use Rattle.answers.specs.Outcome.{LeftKept}
 use Rattle.entries.specs.Demands.{Answers, Output}
@@ -67,6 +68,6 @@ WritePage t flag s room =
 
 abbrev pub BackPage : Lists → Bool → List ℕ → (room : ℕ) → LeftKept → Type 0
 BackPage t flag s room =
-    Exact (checksWithoutRoom t (length s) room) (λ i. scan.Ends i (scanSections t flag s))
-    (λ n p. scan.Faults n p (scanSections t flag s)) room
+    Exact (checksWithoutRoom t (length s) room) (λ i. scan.Ends i (scanSections t (ordinary flag) s))
+    (λ n p. scan.Faults n p (scanSections t (ordinary flag) s)) room
     (givenBack t flag s)

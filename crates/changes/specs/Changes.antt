@@ -8,7 +8,7 @@ use lib.Dec.{leb, eqb}
 use Rattle.slices.specs.Splice.{part}
 use Rattle.numbers.specs.Fixed.{big}
 use Rattle.tables.specs.Lists.{Lists, nth, signals}
-use Rattle.values.specs.Value.{onRead, value}
+use Rattle.values.specs.Value.{onRead, narrow}
 use Rattle.rules.specs.Gather.{time, write, stepEnd}
 use Rattle.rules.specs.Scan.{Scan, say, done, fault}
 use Rattle.changes.specs.declared.Change.{Change}
@@ -28,7 +28,7 @@ module _ (t : Lists) (s : List ℕ) where
   unfoldable pub written : (k id i : ℕ) → Change
   written k id i =
       cond (eqb k 2)
-      (cond (leb (nth (t .kinds) id) 4) (onRead (value (nth (t .kinds) id) s (i + 5)) Bad (λ v j. Write id v j)) (Bad 19 i))
+      (cond (leb (nth (t .kinds) id) 4) (onRead (narrow (nth (t .kinds) id) s (i + 5)) Bad (λ v j. Write id v j)) (Bad 19 i))
       (cond (leb 5 (nth (t .kinds) id)) (Write id (big (part s (i + 5) 8)) (i + 13)) (Bad 19 i))
 
   -- "13: id is 0 or past n: record"

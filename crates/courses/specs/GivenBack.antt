@@ -4,6 +4,7 @@ use Prim.Native.Nat.{ℕ, _+_}
 use mathlib.Core.Bool.{Bool}
 use mathlib.Core.List.{List}
 use Rattle.tables.specs.Lists.{Lists}
+use Rattle.values.specs.Value.{ordinary}
 use Rattle.rules.specs.Scan.{Scan, say}
 use Rattle.rules.specs.Scan as scan
 use Rattle.section_scan.specs.Sections.{scanSections}
@@ -17,4 +18,4 @@ givenFrom t n (scan.done i) = done i n
 givenFrom t n (scan.fault m p) = fault m p
 
 unfoldable pub givenBack : Lists → Bool → List ℕ → Course
-givenBack t flag s = givenFrom t 0 (scanSections t flag s)
+givenBack t flag s = givenFrom t 0 (scanSections t (ordinary flag) s)

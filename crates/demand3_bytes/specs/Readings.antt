@@ -2,7 +2,6 @@
 -- Assumes nothing.
 use Prim.Native.Nat.{ℕ, _^_, _<_}
 use mathlib.Core.Path.{_≡_, refl, sym, ap, _∙_}
-use mathlib.Core.Bool.{Bool}
 use mathlib.Core.List.{List, [], _++_, append-nil}
 use native.Mathlib.Omega.{arith}
 use lib.ListN.{length, length-take}
@@ -11,6 +10,7 @@ use Rattle.tables.specs.Lists.{Lists}
 use Rattle.tables.specs.declared.Check.{Check}
 use Rattle.tables.specs.declared.Check.the-variants.{Passed, Refused}
 use Rattle.tables.specs.Good.Laws.{limited, good}
+use Rattle.values.specs.declared.How.{How}
 use Rattle.rules.specs.Vector.{actsEarly}
 use Rattle.rules.specs.Gather.{Good, Happening, begin, happens, own}
 use Rattle.rules.specs.Gather.Echo.{nothing-lost}
@@ -101,11 +101,11 @@ module _ (t : Lists) (input : ℕ) (l : Lent) (sc : Scan) (x : Left) (d1 : Deman
 
 -- ---- at the entries
 
-pub sections-on-bytes : (t : Lists) (flag : Bool) (s : List ℕ) (l : Lent) → readSections t flag s l .answer .number ≡ 0
-    → OnBytes t (acts (scanSections t flag s)) (eventsFrom t (scanSections t flag s)) (readSections t flag s l)
-sections-on-bytes t flag s l ok =
-    on-bytes t (length s) l (scanSections t flag s) (readSections t flag s l) (sections-1 t flag s l)
-    (sections-2 t flag s l) (sections-3 t flag s l ok) ok (sections-suited t s flag)
+pub sections-on-bytes : (t : Lists) (how : How) (s : List ℕ) (l : Lent) → readSections t how s l .answer .number ≡ 0
+    → OnBytes t (acts (scanSections t how s)) (eventsFrom t (scanSections t how s)) (readSections t how s l)
+sections-on-bytes t how s l ok =
+    on-bytes t (length s) l (scanSections t how s) (readSections t how s l) (sections-1 t how s l)
+    (sections-2 t how s l) (sections-3 t how s l ok) ok (sections-suited t s how)
 
 pub changes-on-bytes : (t : Lists) (s : List ℕ) (l : Lent) → readChanges t s l .answer .number ≡ 0
     → OnBytes t (acts (scanChanges t s)) (eventsFrom t (scanChanges t s)) (readChanges t s l)

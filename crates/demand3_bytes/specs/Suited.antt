@@ -16,6 +16,7 @@ use Rattle.numbers.specs.Marks.{same, esn, ecy, eod, sectionOf}
 use Rattle.numbers.specs.declared.marks.Section.{Section}
 use Rattle.numbers.specs.declared.marks.Section.the-variants.{Snapshot, Cycle, Directory, Tailer, Unknown}
 use Rattle.tables.specs.Lists.{Lists, nth, signals}
+use Rattle.values.specs.declared.How.{How}
 use Rattle.values.specs.declared.Read.{Read}
 use Rattle.values.specs.declared.Read.the-variants.{Value, Bad}
 use Rattle.values.specs.Value.{onRead, unsigned, value, Suits}
@@ -60,20 +61,20 @@ module _ (t : Lists) where
     unfolding endMark Suited
     on-mark mark i = on-field 4 i _ (λ j. cond-ind (same (part s i 4) mark) _ _ Suited (λ e. tt) (λ e. tt))
 
-    on-value : (id i : ℕ) (k : ℕ → ℕ → Scan) → ((v j : ℕ) → Suits (nth (t .kinds) id) v → Suited (k v j))
-        → Suited (onRead (value (nth (t .kinds) id) s i) fault k)
+    on-value : (how : How) (id i : ℕ) (k : ℕ → ℕ → Scan) → ((v j : ℕ) → Suits (nth (t .kinds) id) v → Suited (k v j))
+        → Suited (onRead (value how (nth (t .kinds) id) s i) fault k)
     unfolding onRead Suited
-    on-value id i k f = go (value (nth (t .kinds) id) s i) refl
+    on-value how id i k f = go (value how (nth (t .kinds) id) s i) refl
       where
-        go : (r : Read) → r ≡ value (nth (t .kinds) id) s i → Suited (onRead r fault k)
-        go (Value v j) e = f v j (value-suits (nth (t .kinds) id) s i e refl)
+        go : (r : Read) → r ≡ value how (nth (t .kinds) id) s i → Suited (onRead r fault k)
+        go (Value v j) e = f v j (value-suits how (nth (t .kinds) id) s i e refl)
         go (Bad n p) e = tt
 
-    each-value : (count id i : ℕ) → 1 ≤ id → id + count ≤ signals t + 1 → Suited (eachValue t s count id i)
+    each-value : (how : How) (count id i : ℕ) → 1 ≤ id → id + count ≤ signals t + 1 → Suited (eachValue t how s count id i)
     unfolding eachValue Suited
-    each-value zero id i a b = tt
-    each-value (suc count) id i a b =
-        on-value id i _ (λ v j u. ((a, omega arith, u), each-value count (suc id) j (omega arith) (omega arith)))
+    each-value how zero id i a b = tt
+    each-value how (suc count) id i a b =
+        on-value how id i _ (λ v j u. ((a, omega arith, u), each-value how count (suc id) j (omega arith) (omega arith)))
 
     IdFound : NextId → Type 0
     IdFound (ids.Id id j) = (1 ≤ id) × (id ≤ signals t)
@@ -94,78 +95,81 @@ module _ (t : Lists) where
             (λ l. (omega (arith, eqb-false d 0 e), leb-true _ _ l)) (λ l. tt))
         go (Bad n p) = tt
 
-    one-change : (x : NextId) (more : ℕ → ℕ → Scan) → IdFound x → ((id j : ℕ) → Suited (more id j))
-        → Suited (oneChange t s x more)
+    one-change : (how : How) (x : NextId) (more : ℕ → ℕ → Scan) → IdFound x → ((id j : ℕ) → Suited (more id j))
+        → Suited (oneChange t how s x more)
     unfolding oneChange IdFound Suited
-    one-change (ids.Id id j) more o f = on-value id j _ (λ v k u. ((o .0, o .1, u), f id k))
-    one-change (ids.End j) more o f = tt
-    one-change (ids.Bad n p) more o f = tt
+    one-change how (ids.Id id j) more o f = on-value how id j _ (λ v k u. ((o .0, o .1, u), f id k))
+    one-change how (ids.End j) more o f = tt
+    one-change how (ids.Bad n p) more o f = tt
 
-    change-list : (fuel id i : ℕ) → Suited (changeList t s fuel id i)
+    change-list : (how : How) (fuel id i : ℕ) → Suited (changeList t how s fuel id i)
     unfolding changeList Suited
-    change-list zero id i = tt
-    change-list (suc fuel) id i = one-change (nextId t s id i) _ (id-found id i) (λ id′ j. change-list fuel id′ j)
+    change-list how zero id i = tt
+    change-list how (suc fuel) id i = one-change how (nextId t s id i) _ (id-found id i) (λ id′ j. change-list how fuel id′ j)
 
     -- ---- sections
 
-    module _ (flag : Bool) where
+    module _ (how : How) where
+      abbrev flag : Bool
+      flag = how .«big_endian»
+
       one-step : (x : NextTime) (more : ℕ → ℕ → Scan) → ((u j : ℕ) → Suited (more u j))
-          → Suited (oneStep t flag s x more)
+          → Suited (oneStep t how s x more)
       unfolding oneStep Suited
       one-step (times.Time u j) more f = f u j
       one-step (times.End j) more f = on-mark ecy j
       one-step (times.Bad n p) more f = tt
 
-      in-steps : (fuel u i : ℕ) → Suited (steps t flag s fuel u i)
+      in-steps : (fuel u i : ℕ) → Suited (steps t how s fuel u i)
       unfolding steps Suited
       in-steps zero u i = tt
       in-steps (suc fuel) u i =
-          suited-then (changeList t s (length s) 0 i) _ (change-list (length s) 0 i)
+          suited-then (changeList t how s (length s) 0 i) _ (change-list how (length s) 0 i)
           (λ j. one-step (nextTime s u j) _ (λ u′ e. in-steps fuel u′ e))
 
-      in-cycle : (i : ℕ) → Suited (cycle t flag s i)
+      in-cycle : (i : ℕ) → Suited (cycle t how s i)
       unfolding cycle Suited
       in-cycle i = on-field 8 i _ (λ j. in-steps (length s) _ j)
 
-      in-snapshot : (i : ℕ) → Suited (snapshot t flag s i)
+      in-snapshot : (i : ℕ) → Suited (snapshot t how s i)
       unfolding snapshot Suited
       in-snapshot i =
           on-field 12 i _
           (λ j. cond-ind (same (part s i 4) (replicate 4 0)) _ _ Suited
-          (λ e. suited-then (eachValue t s (signals t) 1 j) _ (each-value (signals t) 1 j (omega arith) (omega arith))
+          (λ e. suited-then (eachValue t how s (signals t) 1 j) _ (each-value how (signals t) 1 j (omega arith) (omega arith))
           (λ k. on-mark esn k)) (λ e. tt))
 
-      in-entries : (count i : ℕ) → Suited (entries t flag s count i)
+      in-entries : (count i : ℕ) → Suited (entries t how s count i)
       unfolding entries Suited
       in-entries zero i = tt
       in-entries (suc count) i =
           on-field 4 i _ (λ j. on-field 4 j _ (λ k. cond-ind (negative 32 (fixed flag (part s j 4))) _ _ Suited
           (λ e. tt) (λ e. in-entries count k)))
 
-      in-directory : (i : ℕ) → Suited (directory t flag s i)
+      in-directory : (i : ℕ) → Suited (directory t how s i)
       unfolding directory Suited
       in-directory i =
           on-field 8 i _
           (λ j. cond-ind (negative 32 (fixed flag (part s (i + 4) 4))) _ _ Suited (λ e. tt)
-          (λ e. suited-then (entries t flag s (fixed flag (part s (i + 4) 4)) j) _ (in-entries _ j)
+          (λ e. suited-then (entries t how s (fixed flag (part s (i + 4) 4)) j) _ (in-entries _ j)
           (λ k. on-mark eod k)))
 
       in-section : (x : Section) (mark i : ℕ) (k : ℕ → Scan) → ((j : ℕ) → Suited (k j))
-          → Suited (oneSection t flag s x mark i k)
+          → Suited (oneSection t how s x mark i k)
       unfolding oneSection Suited
-      in-section Snapshot mark i k f = suited-then (snapshot t flag s i) k (in-snapshot i) f
-      in-section Cycle mark i k f = suited-then (cycle t flag s i) k (in-cycle i) f
-      in-section Directory mark i k f = suited-then (directory t flag s i) k (in-directory i) f
+      in-section Snapshot mark i k f = suited-then (snapshot t how s i) k (in-snapshot i) f
+      in-section Cycle mark i k f = suited-then (cycle t how s i) k (in-cycle i) f
+      in-section Directory mark i k f = suited-then (directory t how s i) k (in-directory i) f
       in-section Tailer mark i k f = on-field 8 i done (λ j. tt)
       in-section Unknown mark i k f = tt
 
-      in-sections : (fuel i : ℕ) → Suited (sections t flag s fuel i)
+      in-sections : (fuel i : ℕ) → Suited (sections t how s fuel i)
       unfolding sections Suited
       in-sections zero i = tt
       in-sections (suc fuel) i =
           on-field 4 i _ (λ j. in-section (sectionOf (part s i 4)) i j _ (λ k. in-sections fuel k))
 
-      pub sections-suited : Suited (scanSections t flag s)
+      pub sections-suited : Suited (scanSections t how s)
       unfolding scanSections
       sections-suited = in-sections (length s) 0
 

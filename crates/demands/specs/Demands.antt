@@ -1,7 +1,7 @@
 -- Every demand and every request, in its sentences: what each call gives has the page's name, and its proof is one citation.
 -- The sentences stand where the names lead: `entries` Demands (demands 1 and 2), `rules` Demand3 and `demand3_bytes` Statements
--- (demand 3, of histories and of the output's bytes), `bench` and `written_is_read` Demands (W1, W2), `call_pages` Pages,
--- `room_bounds` Rooms.
+-- (demand 3, of histories and of the output's bytes), `bench` and `written_is_read` Demands (W1, W2), `real_modes` Modes (W3),
+-- `call_pages` Pages, `room_bounds` Rooms.
 -- Assumes nothing.
 use Prim.Native.Nat.{ℕ, _*_, _≤_}
 use mathlib.Core.Path.{_≡_}
@@ -10,6 +10,8 @@ use mathlib.Core.Bool.{Bool, false}
 use mathlib.Core.List.{List}
 use lib.ListN.{length}
 use Rattle.tables.specs.Lists.{Lists}
+use Rattle.values.specs.declared.How.{How}
+use Rattle.values.specs.Value.{manner, ordinary}
 use Rattle.rules.specs.Vector.{actsEarly}
 use Rattle.rules.specs.Steps.Owned.{historyOf}
 use Rattle.rules.specs.Once.{Single}
@@ -32,6 +34,8 @@ use Rattle.doorquill.specs.Lent.Demands.{LentDemand1}
 use Rattle.doorquill.specs.Lent.Demands as lent
 use Rattle.demand3_bytes.specs.Statements.{OnBytes}
 use Rattle.demand3_bytes.specs.Readings as bytes
+use Rattle.real_modes.specs.Modes.{TwoModes}
+use Rattle.real_modes.specs.Modes as reals
 use Rattle.written_is_read.specs.Demands.{WriteDemand, BackDemand}
 use Rattle.written_is_read.specs.Demands as writing
 use Rattle.bench.specs.Bench.{bench}
@@ -49,35 +53,47 @@ use Rattle.room_bounds.specs.Calls.GivenBack as back-rooms
 
 -- ---- section reading
 
-module _ (t : Lists) (flag : Bool) (s : List ℕ) (l : Lent) where
+module _ (t : Lists) (how : How) (s : List ℕ) (l : Lent) where
   -- 1: it ends, stays in its buffers, and refuses with a number and a place and everything zero
-  pub sections-1 : Demand1 t (length s) l (readSections t flag s l)
-  sections-1 = entry.sections-1 t flag s l
+  pub sections-1 : Demand1 t (length s) l (readSections t how s l)
+  sections-1 = entry.sections-1 t how s l
 
   -- 2: its events and values are those of the rules, in order and content
-  pub sections-2 : Demand2 t (length s) l (scanSections t flag s) (readSections t flag s l)
-  sections-2 = entry.sections-2 t flag s l
+  pub sections-2 : Demand2 t (length s) l (scanSections t how s) (readSections t how s l)
+  sections-2 = entry.sections-2 t how s l
 
   -- 3: every write of a vector bit belongs to exactly one event ..
-  pub sections-3 : readSections t flag s l .answer .number ≡ 0 → Demand3 actsEarly (gathers t) (acts (scanSections t flag s))
-  sections-3 = entry.sections-3 t flag s l
+  pub sections-3 : readSections t how s l .answer .number ≡ 0 → Demand3 actsEarly (gathers t) (acts (scanSections t how s))
+  sections-3 = entry.sections-3 t how s l
 
   -- .. of the records in the output's bytes
-  pub sections-3-bytes : readSections t flag s l .answer .number ≡ 0
-      → OnBytes t (acts (scanSections t flag s)) (eventsFrom t (scanSections t flag s)) (readSections t flag s l)
-  sections-3-bytes = bytes.sections-on-bytes t flag s l
+  pub sections-3-bytes : readSections t how s l .answer .number ≡ 0
+      → OnBytes t (acts (scanSections t how s)) (eventsFrom t (scanSections t how s)) (readSections t how s l)
+  sections-3-bytes = bytes.sections-on-bytes t how s l
 
   -- no event by rule (a), and at most one of a vector in a step
-  pub sections-single : readSections t flag s l .answer .number ≡ 0 → (v : ℕ)
-      → Single false (historyOf actsEarly (gathers t) (acts (scanSections t flag s)) v)
-  sections-single = entry.sections-single t flag s l
+  pub sections-single : readSections t how s l .answer .number ≡ 0 → (v : ℕ)
+      → Single false (historyOf actsEarly (gathers t) (acts (scanSections t how s)) v)
+  sections-single = entry.sections-single t how s l
 
-  pub sections-only : (a b : Left) → a ≡ readSections t flag s l → b ≡ readSections t flag s l → a ≡ b
-  sections-only = entry-unique.sections-unique t flag s l
+  pub sections-only : (a b : Left) → a ≡ readSections t how s l → b ≡ readSections t how s l → a ≡ b
+  sections-only = entry-unique.sections-unique t how s l
 
   pub sections-room : sectionEvents (length s) ≤ l .events → sectionValues t (length s) ≤ l .values
-      → readSections t flag s l .answer .number ≢ 16
-  sections-room = reading-rooms.sections-room t flag s l
+      → readSections t how s l .answer .number ≢ 16
+  sections-room = reading-rooms.sections-room t how s l
+
+-- ---- W3: reals in big-endian files
+
+module _ (t : Lists) (flag m m' : Bool) (s : List ℕ) (l : Lent) where
+  -- 1, 2 and 3 stand above, once for both modes. Between the modes: the same answer and value bytes, the same events but for the bits of reals
+  pub reals-demand : TwoModes t flag m m' s l
+  reals-demand = reals.two-modes t flag m m' s l
+
+-- .. and where the flag is little-endian no difference at all
+pub reals-little : (t : Lists) (m : Bool) (s : List ℕ) (l : Lent)
+    → readSections t (manner false m) s l ≡ readSections t (ordinary false) s l
+reals-little t m s l = reals.little-modes t m s l
 
 -- ---- section reading over vector records
 
@@ -88,7 +104,7 @@ module _ (vs : List Vector) (kinds refs vecs : List ℕ) (flag : Bool) (s : List
 
   -- where `flat` suffices it is section reading of the flat table: 2 and 3 are that call's
   pub lent-reads : flat ≤ 1073741823 → 4 * length vs ≤ flat
-      → readSectionsLent vs kinds refs vecs flag s l flat .left ≡ readSections (tableOf vs kinds refs vecs) flag s l
+      → readSectionsLent vs kinds refs vecs flag s l flat .left ≡ readSections (tableOf vs kinds refs vecs) (ordinary flag) s l
   lent-reads = lent.lent-reads vs kinds refs vecs flag s l flat
 
 -- ---- change reading

@@ -9,6 +9,7 @@ use Rattle.tables.specs.Lists.{Lists, lists, vectors}
 use Rattle.tables.specs.Checks.{unless, andThen, withinLimit, check1, check2}
 use Rattle.tables.specs.declared.Check.{Check}
 use Rattle.tables.specs.declared.Check.the-variants.{Passed, Refused}
+use Rattle.values.specs.Value.{ordinary}
 use Rattle.doorquill.specs.declared.Vector.{Vector}
 use Rattle.answers.specs.Outcome.{refused, Left, Lent, leaves}
 use Rattle.entries.specs.Entries.{readSections}
@@ -43,4 +44,4 @@ leftBy (Refused n p) l x = leaves l (refused n p)
 unfoldable pub readSectionsLent : List Vector → (kinds refs vecs : List ℕ) → Bool → List ℕ → Lent → (flat : ℕ) → LeftLent
 readSectionsLent vs kinds refs vecs flag s l flat =
     let t = tableOf vs kinds refs vecs in
-    record { left = leftBy (checksLent t (length s) l flat) l (readSections t flag s l); flat = replicate flat 0 }
+    record { left = leftBy (checksLent t (length s) l flat) l (readSections t (ordinary flag) s l); flat = replicate flat 0 }

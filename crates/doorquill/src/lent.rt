@@ -16,6 +16,7 @@ ghost use Prim.Native.Nat.{_+_, _*_, _%_, _≤_};
 ghost use lib.ListN.{length, replicate};
 ghost use Rattle.slices.specs.Splice.{splice, part};
 ghost use Rattle.tables.specs.Lists.{lists};
+ghost use Rattle.values.specs.Value.{ordinary};
 ghost use Rattle.entries.specs.Entries.{readSections};
 ghost use Rattle.entries.specs.Faces.{lent, left};
 ghost use Rattle.doorquill.specs.Lent.Flat.{roomFor, Unpacked, lows, flatTable, checkFlat, checksFlat, readPassed, refusedLent, readFlat, leftWith};
@@ -133,7 +134,7 @@ fn read_rest<'a>(
     ensures { λ r.
         let t = lists (now (kinds .entry)) (now (refs .entry)) (now (vecs .entry)) (now (mins .entry)) (now (maxs .entry))
         (part (now (states .entry)) 0 v) (part (now (flat .entry)) (2 * v) v) in
-        ⌜ left r events values room list ≡ readSections t «big_endian» (now (input .entry)) (lent events values room list) ⌝ }
+        ⌜ left r events values room list ≡ readSections t (ordinary «big_endian») (now (input .entry)) (lent events values room list) ⌝ }
 {
     let vec_refs = references(flat, v);
     let bytes = first_of(states, v);
@@ -146,6 +147,7 @@ fn read_rest<'a>(
         bytes,
         vec_refs,
         big_endian,
+        false,
         input,
         events,
         values,
@@ -173,7 +175,7 @@ fn read_runs<'a>(
     ensures { λ r.
         let t = lists (now (kinds .entry)) (now (refs .entry)) (now (vecs .entry)) (part (now (flat .entry)) 0 v)
         (part (now (flat .entry)) v v) (part (now (states .entry)) 0 v) (part (now (flat .entry)) (2 * v) v) in
-        ⌜ left r events values room list ≡ readSections t «big_endian» (now (input .entry)) (lent events values room list) ⌝ }
+        ⌜ left r events values room list ≡ readSections t (ordinary «big_endian») (now (input .entry)) (lent events values room list) ⌝ }
 {
     let mins = least_ids(flat, v);
     let maxs = greatest_ids(flat, v);
@@ -212,7 +214,7 @@ fn read_table<'a>(
     requires { ⌜ (v ≤ 16383) × (4 * v ≤ length (now flat)) ⌝ }
     ensures { λ r.
         let t = flatTable (now (kinds .entry)) (now (refs .entry)) (now (vecs .entry)) v (now (flat .entry)) in
-        ⌜ left r events values room list ≡ readSections t «big_endian» (now (input .entry)) (lent events values room list) ⌝ }
+        ⌜ left r events values room list ≡ readSections t (ordinary «big_endian») (now (input .entry)) (lent events values room list) ⌝ }
 {
     let mut states = [0u8; 16383];
     lower_states(flat, 3 * v, v, &mut states);

@@ -14,11 +14,12 @@ use lent::room_for;
 use lent::unpack;
 use passed::sections_passed;
 use reading_ends::refuse;
-use section_heads::How;
 use section_writing::write_sections;
 use tables::Check;
+use values::How;
 ghost use mathlib.Core.Path.{_≡_};
 ghost use lib.ListN.{length};
+ghost use Rattle.values.specs.Value.{manner};
 ghost use Rattle.entries.specs.Entries.{readSections, applyTimeRule};
 ghost use Rattle.entries.specs.Faces.{tables, lent, left, leftIn};
 ghost use Rattle.doorquill.specs.Lent.Flat.{leftWith};
@@ -34,7 +35,7 @@ pub struct Vector {
     pub reference: u32,
 }
 
-// Section reading.
+// Section reading; reals are little-endian, or follow the flag.
 #[no_mangle]
 pub extern "C" fn doorquill_read_sections<'a>(
     kinds: &'a [u8],
@@ -45,6 +46,7 @@ pub extern "C" fn doorquill_read_sections<'a>(
     states: &'a [u8],
     vec_refs: &'a [u32],
     big_endian: bool,
+    reals_by_flag: bool,
     input: &[u8],
     events: &mut [u8],
     values: &mut [u8],
@@ -54,7 +56,7 @@ pub extern "C" fn doorquill_read_sections<'a>(
     ensures { λ r.
         let t = tables kinds refs vecs mins maxs states «vec_refs» in
         ⌜ left r events values room list
-        ≡ readSections t «big_endian» (now (input .entry)) (lent events values room list) ⌝ }
+        ≡ readSections t (manner «big_endian» «reals_by_flag») (now (input .entry)) (lent events values room list) ⌝ }
 {
     match checks(
         kinds,
@@ -73,7 +75,10 @@ pub extern "C" fn doorquill_read_sections<'a>(
         Check::Passed => sections_passed(
             [kinds, states],
             [refs, vecs, mins, maxs, vec_refs],
-            How { big_endian },
+            How {
+                big_endian,
+                reals_by_flag,
+            },
             input,
             events,
             values,

@@ -16,7 +16,7 @@ use reading_ends::finish;
 use reading_ends::start;
 use readings::read_sections;
 use room_needs::total_bytes;
-use section_heads::How;
+use values::How;
 ghost use mathlib.Core.Path.{_≡_};
 ghost use lib.ListN.{length};
 ghost use Rattle.tables.specs.Layout.{layoutOf, totalBytes};
@@ -42,7 +42,7 @@ fn sections_part<'a>(
     ensures { λ r.
         let t = tables (b .entry) (n .entry) in
         ⌜ Over need (length (t .mins)) r events values room list
-        (ran t events values (scanSections t (how .«big_endian») (now (input .entry)))) ⌝ }
+        (ran t events values (scanSections t how (now (input .entry)))) ⌝ }
 {
     let mins = n[MINS];
     let maxs = n[MAXS];
@@ -84,7 +84,7 @@ pub(crate) fn sections_passed<'a>(
     ensures { λ r.
         let t = tables (b .entry) (n .entry) in
         ⌜ left r events values room list
-        ≡ leaves (lent events values room list) (ran t events values (scanSections t (how .«big_endian») (now (input .entry)))) ⌝ }
+        ≡ leaves (lent events values room list) (ran t events values (scanSections t how (now (input .entry)))) ⌝ }
 {
     let kinds = b[KINDS];
     let states = b[STATES];

@@ -2,7 +2,6 @@
 -- Assumes nothing.
 use mathlib.Core.Path.{_≡_, refl, sym, ap, _∙_}
 use Prim.Native.Nat.{ℕ, zero, suc, _+_, _-_, _≤_}
-use mathlib.Core.Bool.{Bool}
 use mathlib.Core.List.{List, _++_}
 use native.Mathlib.Nat.{zero-add}
 use native.Mathlib.Omega.{arith}
@@ -18,6 +17,7 @@ use Rattle.tables.specs.Good.{Sized, Ranged, Named, Good}
 use Rattle.tables.specs.Good.Laws.{limited, good}
 use Rattle.tables.specs.declared.Check.{Check}
 use Rattle.tables.specs.declared.Check.the-variants.{Passed, Refused}
+use Rattle.values.specs.declared.How.{How}
 use Rattle.rules.specs.Gather.{begin}
 use Rattle.event_rooms.specs.Out.{empty}
 use Rattle.vecstarts.specs.Numbers.{Shapes, filled}
@@ -225,9 +225,9 @@ module _ (t : Lists) (input e v n k : ℕ) {m : Check} (c : m ≡ checks t input
     unfolding reads checked
     checked-passed q h = rw (← c, q) h
 
-pub sections-read : (t : Lists) (flag : Bool) (s : List ℕ) (l : Lent) {y : Left} → y ≡ leaves l (reads t (length s) l (scanSections t flag s)) → y ≡ readSections t flag s l
+pub sections-read : (t : Lists) (how : How) (s : List ℕ) (l : Lent) {y : Left} → y ≡ leaves l (reads t (length s) l (scanSections t how s)) → y ≡ readSections t how s l
 unfolding readSections
-sections-read t flag s l h = h
+sections-read t how s l h = h
 
 pub changes-read : (t : Lists) (s : List ℕ) (l : Lent) {y : Left} → y ≡ leaves l (reads t (length s) l (scanChanges t s)) → y ≡ readChanges t s l
 unfolding readChanges

@@ -6,13 +6,14 @@
 use Prim.Native.Nat.{ℕ, _-_, _≤_}
 use mathlib.Core.Path.{_≡_, refl, ap, _∙_}
 use mathlib.Core.Logic.{_≢_}
-use mathlib.Core.Bool.{Bool, false}
+use mathlib.Core.Bool.{false}
 use mathlib.Core.Option.{some}
 use mathlib.Core.List.{List, [], Sublistᴰ}
 use native.Mathlib.Omega.{arith}
 use lib.ListN.{length, take, drop, replicate}
 use Rattle.tables.specs.Lists.{Lists}
 use Rattle.tables.specs.declared.Check.the-variants.{Passed, Refused}
+use Rattle.values.specs.declared.How.{How}
 use Rattle.rules.specs.Vector.{actsEarly}
 use Rattle.rules.specs.Gather.{Good, begin}
 use Rattle.rules.specs.Steps.Owned.{historyOf}
@@ -177,24 +178,24 @@ module _ (t : Lists) (input : ℕ) (l : Lent) (sc : Scan) (w : Scanned input sc)
 
 -- ---- section reading
 
-module _ (t : Lists) (flag : Bool) (s : List ℕ) (l : Lent) where
-  pub sections-1 : Demand1 t (length s) l (readSections t flag s l)
+module _ (t : Lists) (how : How) (s : List ℕ) (l : Lent) where
+  pub sections-1 : Demand1 t (length s) l (readSections t how s l)
   unfolding readSections
-  sections-1 = demand1 t (length s) l (scanSections t flag s) (sections-scanned t flag s)
+  sections-1 = demand1 t (length s) l (scanSections t how s) (sections-scanned t how s)
 
-  pub sections-2 : Demand2 t (length s) l (scanSections t flag s) (readSections t flag s l)
+  pub sections-2 : Demand2 t (length s) l (scanSections t how s) (readSections t how s l)
   unfolding readSections
-  sections-2 = demand2 t (length s) l (scanSections t flag s) (sections-scanned t flag s)
+  sections-2 = demand2 t (length s) l (scanSections t how s) (sections-scanned t how s)
 
   -- "3. In an accepted reading, before the time rule, every write of a vector bit belongs to exactly one event: .."
-  pub sections-3 : readSections t flag s l .answer .number ≡ 0 → Demand3 actsEarly (gathers t) (acts (scanSections t flag s))
+  pub sections-3 : readSections t how s l .answer .number ≡ 0 → Demand3 actsEarly (gathers t) (acts (scanSections t how s))
   unfolding readSections leaves
-  sections-3 = demand3-of t (length s) l (scanSections t flag s) (sections-scanned t flag s)
+  sections-3 = demand3-of t (length s) l (scanSections t how s) (sections-scanned t how s)
 
   -- and sections make no event by rule (a), and at most one of a vector in a step, since ids rise in each
-  pub sections-single : readSections t flag s l .answer .number ≡ 0 → (v : ℕ) → Single false (historyOf actsEarly (gathers t) (acts (scanSections t flag s)) v)
+  pub sections-single : readSections t how s l .answer .number ≡ 0 → (v : ℕ) → Single false (historyOf actsEarly (gathers t) (acts (scanSections t how s)) v)
   unfolding readSections leaves
-  sections-single h = rising-single actsEarly (gathers t) (good t (length s) l (scanSections t flag s) (sections-scanned t flag s) h) (acts (scanSections t flag s)) (sections-rising t flag s)
+  sections-single h = rising-single actsEarly (gathers t) (good t (length s) l (scanSections t how s) (sections-scanned t how s) h) (acts (scanSections t how s)) (sections-rising t how s)
 
 -- ---- change reading
 

@@ -1,13 +1,14 @@
 -- The three entries: the answer and what each lent buffer holds at the end, from the inputs alone.
 -- Assumes nothing.
 use Prim.Native.Nat.{ℕ}
-use mathlib.Core.Bool.{Bool, cond, _&&_}
+use mathlib.Core.Bool.{cond, _&&_}
 use mathlib.Core.List.{List, []}
 use lib.ListN.{length}
 use Rattle.tables.specs.Lists.{Lists}
 use Rattle.tables.specs.Checks.{checks, withinLimit}
 use Rattle.tables.specs.declared.Check.{Check}
 use Rattle.tables.specs.declared.Check.the-variants.{Passed, Refused}
+use Rattle.values.specs.declared.How.{How}
 use Rattle.rules.specs.Scan.{Scan}
 use Rattle.gather.specs.Run.{Went, went, out, runAll}
 use Rattle.section_scan.specs.Sections.{scanSections}
@@ -33,8 +34,8 @@ unfoldable pub reads : Lists → ℕ → Lent → Scan → Outcome
 reads t input l sc =
     checked (checks t input (l .events) (l .values) (l .room) (l .list)) (outcome (runAll t (record { events = l .events; values = l .values }) sc))
 
-unfoldable pub readSections : Lists → Bool → List ℕ → Lent → Left
-readSections t flag s l = leaves l (reads t (length s) l (scanSections t flag s))
+unfoldable pub readSections : Lists → How → List ℕ → Lent → Left
+readSections t how s l = leaves l (reads t (length s) l (scanSections t how s))
 
 unfoldable pub readChanges : Lists → List ℕ → Lent → Left
 readChanges t s l = leaves l (reads t (length s) l (scanChanges t s))

@@ -4,5 +4,6 @@ pub mod Faces
 pub mod Kept
 pub mod Unique
 pub mod Demands
+pub mod Manners
 pub mod Begin
 pub mod Written

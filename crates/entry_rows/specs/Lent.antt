@@ -6,6 +6,7 @@ use mathlib.Core.Bool.{false}
 use mathlib.Core.List.{List, [], _∷_}
 use lib.ListN.{replicate}
 use Rattle.numbers.specs.Fixed.{bigBytes}
+use Rattle.values.specs.Value.{ordinary}
 use Rattle.doorquill.specs.declared.Vector.{Vector}
 use Rattle.answers.specs.Outcome.{Lent}
 use Rattle.entries.specs.Entries.{readSections}
@@ -24,7 +25,7 @@ abbrev worked : List Vector → Lent → (flat : ℕ) → LeftLent
 worked vs l flat = readSectionsLent vs (0 ∷ 3 ∷ 3 ∷ 4 ∷ []) (1 ∷ 2 ∷ 2 ∷ 3 ∷ []) (0 ∷ 1 ∷ 1 ∷ 0 ∷ []) false input l flat
 
 -- "vector 1 (min 2, max 3, two-state)": four numbers are enough, and all is as the flat table gives it
-pub worked-lent : worked (vector 2 3 1 2 ∷ []) (lent 95 7 6 2) 4 ≡ record { left = readSections small false input (lent 95 7 6 2); flat = 0 ∷ 0 ∷ 0 ∷ 0 ∷ [] }
+pub worked-lent : worked (vector 2 3 1 2 ∷ []) (lent 95 7 6 2) 4 ≡ record { left = readSections small (ordinary false) input (lent 95 7 6 2); flat = 0 ∷ 0 ∷ 0 ∷ 0 ∷ [] }
 unfolding opened tableOf checksLent leftBy readSectionsLent
 worked-lent = refl
 

@@ -7,6 +7,7 @@ use mathlib.Core.List.{List, [], _∷_}
 use lib.ListN.{length, take, replicate}
 use Rattle.numbers.specs.Fixed.{bigBytes}
 use Rattle.tables.specs.Lists.{Lists}
+use Rattle.values.specs.Value.{ordinary}
 use Rattle.answers.specs.declared.Answer.{Answer}
 use Rattle.answers.specs.Outcome.{Left, Lent, LeftKept}
 use Rattle.entries.specs.Entries.{readSections, readChanges, applyTimeRule}
@@ -14,6 +15,7 @@ pub mod Worked
 pub mod Readings
 pub mod Sentences
 pub mod Refusals
+pub mod Reals
 
 -- number, place, bytes read, event bytes, value bytes, steps
 abbrev pub Six : Type 0
@@ -79,7 +81,7 @@ small = tables (0 ∷ 3 ∷ 3 ∷ 4 ∷ []) (1 ∷ 2 ∷ 2 ∷ 3 ∷ []) (0 ∷ 
 
 -- the entries over n bytes, written as one number
 abbrev pub sections : Lists → (n s : ℕ) → Lent → Left
-sections t n s l = readSections t false (bigBytes n s) l
+sections t n s l = readSections t (ordinary false) (bigBytes n s) l
 
 -- only a tailer, so that the tables and what is lent decide
 abbrev pub tailer : Lists → Lent → Left

@@ -6,6 +6,7 @@ use mathlib.Core.List.{List, _++_}
 use lib.ListN.{length, take, drop}
 use lib.Dec.{leb, eqb}
 use Rattle.tables.specs.Lists.{Lists}
+use Rattle.values.specs.Value.{ordinary}
 use Rattle.answers.specs.declared.Answer.{Answer}
 use Rattle.answers.specs.Outcome.{Lent}
 use Rattle.entries.specs.Entries.{readSections}
@@ -26,7 +27,7 @@ abbrev pub lends : Lent
 lends = record { events = 16384; values = 8192; room = 264; list = 64 }
 
 unfoldable pub sectionLines : Lists → Bool → List ℕ → List ℕ
-sectionLines t flag s = let l = readSections t flag s lends in told (l .answer) (l .events) (l .values)
+sectionLines t flag s = let l = readSections t (ordinary flag) s lends in told (l .answer) (l .events) (l .values)
 
 -- "later places count from the first section byte"
 unfoldable pub afterPreamble : List ℕ → Opening → List ℕ

@@ -74,6 +74,7 @@ fn list_sections<'a>(
         states,
         vec_refs,
         big_endian,
+        false,
         s,
         &mut events,
         &mut values,

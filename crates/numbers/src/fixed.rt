@@ -1,7 +1,6 @@
 // "Integers of fixed size follow the flag."
 use crate::house::from_be_bytes;
 use crate::house::get_u32;
-use crate::house::get_u64;
 ghost use mathlib.Core.Path.{_≡_};
 ghost use Prim.Native.Nat.{_+_, _≤_};
 ghost use lib.ListN.{length};
@@ -19,10 +18,12 @@ pub fn read_i64(big_endian: bool, s: &[u8], at: usize) -> u64
     requires { ⌜ at + 8 ≤ length (now s) ⌝ }
     ensures { λ r. ⌜ r ≡ fixed «big_endian» (part (now (s .entry)) at 8) ⌝ }
 {
+    let first = read_i32(big_endian, s, at);
+    let last = read_i32(big_endian, s, at + 4);
     if big_endian {
-        get_u64(s, at)
+        first as u64 * 0x1_0000_0000 + last as u64
     } else {
-        read_f64_le(s, at)
+        last as u64 * 0x1_0000_0000 + first as u64
     }
 }
 
@@ -49,14 +50,6 @@ fn read_i32(big_endian: bool, s: &[u8], at: usize) -> u32
     } else {
         little_u32(s, at)
     }
-}
-
-// The bits of a real, which is little-endian whatever the flag says.
-pub fn read_f64_le(s: &[u8], at: usize) -> u64
-    requires { ⌜ at + 8 ≤ length (now s) ⌝ }
-    ensures { λ r. ⌜ r ≡ little (part (now (s .entry)) at 8) ⌝ }
-{
-    little_u32(s, at) as u64 + little_u32(s, at + 4) as u64 * 0x1_0000_0000
 }
 
 fn little_u32(s: &[u8], at: usize) -> u32

@@ -18,9 +18,10 @@ use Rattle.tables.specs.Layout.{layoutOf}
 use Rattle.tables.specs.Layout.Laws.{state-is}
 use Rattle.tables.specs.Checks.Laws.{nth-less}
 use Rattle.tables.specs.Good.{Bit}
+use Rattle.values.specs.declared.How.{How}
 use Rattle.values.specs.declared.Read.{Read}
 use Rattle.values.specs.Value.{byteUpTo, value, mostOf, Suits}
-use Rattle.values.specs.Value.Laws.{value-nine, value-two}
+use Rattle.values.specs.Value.Laws.{narrow-nine, narrow-two, value-narrow}
 use Rattle.vecmarks.specs.declared.VecBufferInfo.{VecBufferInfo}
 use Rattle.vecmarks.specs.Info.{isMarked, withBit}
 use Rattle.gather.specs.Memory.{Tabled}
@@ -80,9 +81,10 @@ module _ {t : Lists} (k : Tabled t) (v id : ℕ) (known : v < length (t .mins)) 
   names : getD (t .vecs) (id - 1) 0 ≡ v + 1
   names = k .named .names v (id - 1) known (rw up above) (rw up below)
 
-  -- its kind is that of the vector's state: its values are read so, and suit it
+  -- its kind is that of the vector's state: its values are read so in every manner, and suit it
   pub record OfState (st : States) : Type 0 where
-    pub reads : (s : List ℕ) (i : ℕ) {r : Read} → r ≡ byteUpTo (bitMost st) (bitMap st) s i → r ≡ value (nth (t .kinds) id) s i
+    pub reads : (how : How) (s : List ℕ) (i : ℕ) {r : Read} → r ≡ byteUpTo (bitMost st) (bitMap st) s i
+        → r ≡ value how (nth (t .kinds) id) s i
     pub suits : (b : ℕ) → b ≤ bitMost st → Suits (nth (t .kinds) id) (bitMap st b)
 
   pub of-state : OfState state
@@ -101,8 +103,17 @@ module _ {t : Lists} (k : Tabled t) (v id : ℕ) (known : v < length (t .mins)) 
       go : Dec (getD (t .kinds) (id - 1) 0 ≡ 1) → Dec (getD (t .kinds) (id - 1) 0 ≡ 3) → OfState state
       go (yes a) b =
           rw (is-state 0 (k .signals .nine (id - 1) inside a))
-          (record { reads = λ s i e. rw (nth-less (t .kinds) id first, a) (value-nine 1 s i (omega arith) e); suits = λ y h. rw (nth-less (t .kinds) id first, a) (λ _. mapped-most y h) })
+          (record {
+            reads = λ how s i e.
+                rw (nth-less (t .kinds) id first, a) (value-narrow how 1 s i (omega arith) (narrow-nine 1 s i (omega arith) e));
+            suits = λ y h. rw (nth-less (t .kinds) id first, a) (λ _. mapped-most y h);
+          })
       go (no a) (yes b) =
           rw (is-state 1 (k .signals .two (id - 1) inside b))
-          (record { reads = λ s i e. rw (nth-less (t .kinds) id first, b) (value-two 3 s i (omega arith) (omega arith) e); suits = λ y h. rw (nth-less (t .kinds) id first, b) (λ _. h) })
+          (record {
+            reads = λ how s i e.
+                rw (nth-less (t .kinds) id first, b)
+                (value-narrow how 3 s i (omega arith) (narrow-two 3 s i (omega arith) (omega arith) e));
+            suits = λ y h. rw (nth-less (t .kinds) id first, b) (λ _. h);
+          })
       go (no a) (no b) = absurd (omega (arith, names, k .signals .alone (id - 1) inside a b))

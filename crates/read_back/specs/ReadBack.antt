@@ -9,6 +9,7 @@ use Rattle.numbers.specs.Fixed.{bigBytes}
 use Rattle.number_writer.specs.Ended.{Ended, wrote, refused}
 use Rattle.states.specs.Letters.{unmapped}
 use Rattle.tables.specs.Lists.{Lists, nth}
+use Rattle.values.specs.Value.{ordinary}
 use Rattle.rules.specs.Gather.{Act, time, write, stepEnd}
 use Rattle.rules.specs.Scan.{Scan, say, done, fault}
 use Rattle.section_scan.specs.Sections.{scanSections}
@@ -45,5 +46,6 @@ module _ (t : Lists) (room : ℕ) where
   giving (done i) out n = wrote i out n
   giving (fault k p) out n = refused k p
 
+-- in the crate's own manner, which is the one that is written
 unfoldable pub readBack : Lists → Bool → List ℕ → (room : ℕ) → Ended
-readBack t flag s room = giving t room (scanSections t flag s) [] 0
+readBack t flag s room = giving t room (scanSections t (ordinary flag) s) [] 0

@@ -4,7 +4,6 @@ use number_writer::put_byte;
 use number_writer::put_bytes;
 use number_writer::put_fixed;
 use numbers::house::put_u32;
-use section_heads::How;
 use section_heads::Phase;
 use section_heads::Said;
 use section_heads::Stand;
@@ -13,6 +12,7 @@ use section_items::next_item;
 use sections::signal_kind;
 use slices::Field;
 use states::to_ieee1164;
+use values::How;
 ghost use mathlib.Core.Path.{_≡_};
 ghost use Prim.Native.Nat.{_≤_, _<_};
 ghost use lib.ListN.{length};
@@ -184,7 +184,10 @@ pub fn read_back(kinds: &[u8], big_endian: bool, s: &[u8], out: &mut [u8]) -> Wr
         Fills (readBack (withKinds (now (kinds .entry))) «big_endian» (now (s .entry)) (length (now (out .entry))))
         (now (out .entry)) (now (out .exit)) r ⌝ }
 {
-    let how = How { big_endian };
+    let how = How {
+        big_endian,
+        reals_by_flag: false,
+    };
     let mut p = Progress {
         mode: standing(Phase::Mark, 0, 0),
         read: 0,

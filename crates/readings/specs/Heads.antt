@@ -19,7 +19,7 @@ use Rattle.numbers.specs.declared.marks.Section.the-variants as section
 use Rattle.tables.specs.Lists.{Lists}
 use Rattle.rules.specs.Scan.{Scan}
 use Rattle.section_scan.specs.Sections.{nextTime}
-use Rattle.section_heads.specs.declared.How.{How}
+use Rattle.values.specs.declared.How.{How}
 use Rattle.section_heads.specs.declared.Phase.{Phase}
 use Rattle.section_heads.specs.declared.Phase.the-variants.{Mark, Entries, Each, Closing, Listed, Between}
 use Rattle.section_heads.specs.declared.Stand.{Stand}

@@ -15,6 +15,7 @@ use Rattle.gather.specs.declared.Part.{Part}
 use Rattle.gather.specs.declared.Part.the-variants as part
 use Rattle.rules.specs.Scan.{done}
 use Rattle.gather.specs.Memory.{Mem, memOf}
+use Rattle.values.specs.declared.How.{How}
 use Rattle.section_heads.specs.declared.Phase.{Phase}
 use Rattle.section_heads.specs.declared.Stand.{Stand}
 use Rattle.section_heads.specs.declared.Item.{Item}
@@ -23,16 +24,16 @@ use Rattle.sections.specs.Item.{afterValues}
 use Rattle.item_acts.specs.Moves.{Says, counting, moves-then, moves-refuses, time-leads, time-moves, time-refuses}
 use Rattle.value_readings.specs.Values.{ValuesAsk, behindOf, EndsBy, Values}
 
-pub record Opened (t : Lists) (s : List ℕ) (m : Mem) (c : Gathered) (x : Item) (m' : Mem) (r : Part) : Type 0 where
-  pub ends : EndsBy t s (Says (time (x .then .time)) (x .at)) m c x m' r
+pub record Opened (t : Lists) (how : How) (s : List ℕ) (m : Mem) (c : Gathered) (x : Item) (m' : Mem) (r : Part) : Type 0 where
+  pub ends : EndsBy t how s (Says (time (x .then .time)) (x .at)) m c x m' r
 
 module _ {t : Lists} {s room list events values : List ℕ} {c : Gathered} {x : Item} (q : ValuesAsk t s (memOf room list events values) c x) where
   pub step-room : EventsRoom events (c .counts)
   step-room = q .asks .holds .written .in-events
 
   module _ {events₁ : List ℕ} {w : Put} (f : (v : List ℕ) → Appends (event.time (x .then .time) ∷ []) events v (c .counts) events₁ v w) where
-    pub step-full : w ≡ put.Full → {m' : Mem} → Opened t s (memOf room list events values) c x m' (part.Out 16 (x .at))
-    step-full e = record { ends = λ how. time-refuses t room list (f values) (x .at) e }
+    pub step-full : w ≡ put.Full → {how : How} {m' : Mem} → Opened t how s (memOf room list events values) c x m' (part.Out 16 (x .at))
+    step-full e = record { ends = time-refuses t room list (f values) (x .at) e }
 
     module _ {n : Counts} (e : w ≡ put.Done n) where
       pub step-ask : ValuesAsk t s (memOf room list events₁ values) (counting c n) x
@@ -45,13 +46,13 @@ module _ {t : Lists} {s room list events values : List ℕ} {c : Gathered} {x : 
             inside = q .inside;
           }
 
-      opened-by : (m' : Mem) (r : Part) → EndsBy t s (λ L. L) (memOf room list events₁ values) (counting c n) x m' r
-          → EndsBy t s (Says (time (x .then .time)) (x .at)) (memOf room list events values) c x m' r
-      opened-by m' (part.Went i k) y = (y .0, y .1, λ how. moves-then (time-moves t room list (f values) (x .at) e) (y .2 how))
-      opened-by m' (part.Out m p) y = λ how. moves-refuses (time-moves t room list (f values) (x .at) e) (y how)
+      opened-by : (how : How) (m' : Mem) (r : Part) → EndsBy t how s (λ L. L) (memOf room list events₁ values) (counting c n) x m' r
+          → EndsBy t how s (Says (time (x .then .time)) (x .at)) (memOf room list events values) c x m' r
+      opened-by how m' (part.Went i k) y = (y .0, y .1, moves-then (time-moves t room list (f values) (x .at) e) (y .2))
+      opened-by how m' (part.Out m p) y = moves-refuses (time-moves t room list (f values) (x .at) e) y
 
-      pub step-opened : {m' : Mem} {r : Part} → Values t s (memOf room list events₁ values) (counting c n) x m' r → Opened t s (memOf room list events values) c x m' r
-      step-opened {m'} {r} y = record { ends = opened-by m' r (y .ends) }
+      pub step-opened : {how : How} {m' : Mem} {r : Part} → Values t how s (memOf room list events₁ values) (counting c n) x m' r → Opened t how s (memOf room list events values) c x m' r
+      step-opened {how} {m'} {r} y = record { ends = opened-by how m' r (y .ends) }
 
 pub ruleset step-laws = (step-room, step-full, step-ask, step-opened)
 

@@ -16,7 +16,7 @@ use Rattle.gather.specs.Run.{run}
 use Rattle.gather.specs.Memory.{Mem, Sized, sized-self}
 use Rattle.gather.specs.Follows.{Asks, Runs}
 use Rattle.section_scan.specs.Sections.{scanSections}
-use Rattle.section_heads.specs.declared.How.{How}
+use Rattle.values.specs.declared.How.{How}
 use Rattle.section_heads.specs.declared.Phase.{Phase}
 use Rattle.section_heads.specs.declared.Phase.the-variants.{Mark, Closing, Between}
 use Rattle.section_heads.specs.declared.Stand.{Stand}
@@ -39,10 +39,10 @@ pub record OnSections (t : Lists) (how : How) (s : List ℕ) (m₀ : Mem) (c₀ 
   pub heads : inValues (x .phase) ≡ false
   pub rest : Scan
   pub here : Left t how s x i rest
-  pub leads : Leads t m₀ c₀ (scanSections t (how .«big_endian») s) m c rest
+  pub leads : Leads t m₀ c₀ (scanSections t how s) m c rest
 
 pub sections-start : {t : Lists} {m : Mem} {c : Gathered} → Asks t m c → (how : How) (s : List ℕ) {x : Stand} → x ≡ standing Mark 0 0 → OnSections t how s m c m c x 0
-sections-start {t} q how s e = rw e (record { asks = q; sized = sized-self; heads = refl; rest = scanSections t (how .«big_endian») s; here = left-all t how s; leads = leads-self })
+sections-start {t} q how s e = rw e (record { asks = q; sized = sized-self; heads = refl; rest = scanSections t how s; here = left-all t how s; leads = leads-self })
 
 after-head : (p : Phase) → inValues (afterValues p) ≡ false
 unfolding afterValues
@@ -53,7 +53,7 @@ module _ {t : Lists} {how : How} {s : List ℕ} {m₀ : Mem} {c₀ : Gathered} {
   sections-sized = o .sized
 
   abbrev whole : Scan
-  whole = scanSections t (how .«big_endian») s
+  whole = scanSections t how s
 
   module _ {y : Item} (e : y ≡ headItem how s x i) where
     follows : (a : Said) → y .said ≡ a → FollowsBy t how s (rank (x .phase)) i (o .rest) (y .at) (y .then) a
@@ -63,7 +63,7 @@ module _ {t : Lists} {how : How} {s : List ℕ} {m₀ : Mem} {c₀ : Gathered} {
     says a d = subst (λ (b : Said). HeadBy b (y .then)) d (subst IsHead (sym e) (head-says how s x i))
 
     -- "the tailer ends the reading"
-    pub sections-over : y .said ≡ Over → Runs t m₀ m c₀ (part.Went (y .at) c) (scanSections t (how .«big_endian») s)
+    pub sections-over : y .said ≡ Over → Runs t m₀ m c₀ (part.Went (y .at) c) (scanSections t how s)
     unfolding run
     sections-over d =
         record {
@@ -72,7 +72,7 @@ module _ {t : Lists} {how : How} {s : List ℕ} {m₀ : Mem} {c₀ : Gathered} {
               let w : o .rest ≡ done (y .at) = follows Over d in (z .0, z .1, z .3 ∙ rw w, z .2);
         }
 
-    pub sections-bad : {n : ℕ} → y .said ≡ Bad n → Runs t m₀ m c₀ (part.Out n (y .at)) (scanSections t (how .«big_endian») s)
+    pub sections-bad : {n : ℕ} → y .said ≡ Bad n → Runs t m₀ m c₀ (part.Out n (y .at)) (scanSections t how s)
     unfolding run
     sections-bad {n} d =
         record {
@@ -113,22 +113,22 @@ module _ {t : Lists} {how : How} {s : List ℕ} {m₀ : Mem} {c₀ : Gathered} {
       pub sections-ask : ValuesAsk t s m c y
       sections-ask = record { asks = o .asks; values = says (Time u) d .0; first = says (Time u) d .1; inside = begins .left .inside }
 
-      module _ {m' : Mem} {r : Part} (f : Opened t s m c y m' r) where
+      module _ {m' : Mem} {r : Part} (f : Opened t how s m c y m' r) where
         said : Says (time (y .then .time)) (y .at) (Left t how s (y .then) (y .at)) (o .rest)
         said = record { rest = begins .rest; scans = scans; left = begins .left }
 
-        pub sections-out : {n p : ℕ} → r ≡ part.Out n p → Runs t m₀ m' c₀ (part.Out n p) (scanSections t (how .«big_endian») s)
+        pub sections-out : {n p : ℕ} → r ≡ part.Out n p → Runs t m₀ m' c₀ (part.Out n p) (scanSections t how s)
         sections-out {n} {p} z =
-            let k = leads-quits (o .leads) ((rw z at (f .ends)) how .refuses (o .rest) said) in
+            let k = leads-quits (o .leads) ((rw z at (f .ends)) .refuses (o .rest) said) in
             record { runs = λ r g p h. k .quits r g p h }
 
         module _ {j : ℕ} {k : Gathered} (z : r ≡ part.Went j k) where
-          ends : EndsBy t s (Says (time (y .then .time)) (y .at)) m c y m' (part.Went j k)
+          ends : EndsBy t how s (Says (time (y .then .time)) (y .at)) m c y m' (part.Went j k)
           ends = rw z at (f .ends)
 
           pub sections-on : Sized m m' → {x' : Stand} → x' ≡ behindOf y → OnSections t how s m₀ c₀ m' k x' j
           sections-on l w =
-              let v = ends .2 how .moves (o .rest) said in
+              let v = ends .2 .moves (o .rest) said in
               let n = v .2 .leads (o .asks .rooms) (o .asks .state) (o .asks .output) (o .asks .holds) in
               rw w
               (record {

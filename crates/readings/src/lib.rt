@@ -5,7 +5,6 @@ use gather::Gathered;
 use gather::Part;
 use item_turns::Bytes;
 use item_turns::Numbers;
-use section_heads::How;
 use section_heads::Item;
 use section_heads::Phase;
 use section_heads::Said;
@@ -13,7 +12,9 @@ use section_heads::Stand;
 use section_heads::standing;
 use section_items::after_values;
 use section_items::head_item;
+use value_readings::Entered;
 use value_readings::read_values;
+use values::How;
 ghost use mathlib.Core.Path.{_≡_};
 ghost use Rattle.section_scan.specs.Sections.{scanSections};
 ghost use Rattle.gather.specs.Follows.{Asks, Runs};
@@ -31,14 +32,15 @@ fn read_step<'a>(
     events: &mut [u8],
     values: &mut [u8],
     c: Gathered,
-    opened: Item,
+    e: Entered,
 ) -> Part
-    requires { ⌜ ValuesAsk (tables b n) (now s) (lent room list events values) c opened ⌝ }
+    requires { ⌜ ValuesAsk (tables b n) (now s) (lent room list events values) c (e .item) ⌝ }
     ensures { λ r.
         let t = tables (b .entry) (n .entry) in
-        ⌜ Opened t (now (s .entry)) (before room list events values) c opened (after room list events values) r ⌝ }
+        ⌜ Opened t (e .how) (now (s .entry)) (before room list events values) c (e .item) (after room list events values) r ⌝ }
 {
-    let then = opened.then;
+    let item = e.item;
+    let then = item.then;
     match time_change(events, c.counts, then.time) {
         Put::Done(counts) => {
             let g = Gathered {
@@ -46,9 +48,9 @@ fn read_step<'a>(
                 listed: c.listed,
                 counts,
             };
-            read_values(b, n, s, room, list, events, values, g, opened)
+            read_values(b, n, s, room, list, events, values, g, e)
         }
-        Put::Full => Part::Out(16, opened.at),
+        Put::Full => Part::Out(16, item.at),
     }
 }
 
@@ -77,7 +79,7 @@ pub fn read_sections<'a>(
     ensures { λ r.
         let t = tables (b .entry) (n .entry) in
         ⌜ Runs t (before room list events values) (after room list events values) c r
-        (scanSections t (how .«big_endian») (now (s .entry))) ⌝ }
+        (scanSections t how (now (s .entry))) ⌝ }
 {
     let mut x = standing(Phase::Mark, 0, 0);
     let mut at: usize = 0;
@@ -92,7 +94,17 @@ pub fn read_sections<'a>(
             Said::Bad(number) => {
                 break 'sections Part::Out(number, item.at);
             }
-            Said::Time(_) => match read_step(b, n, s, room, list, events, values, g, item) {
+            Said::Time(_) => match read_step(
+                b,
+                n,
+                s,
+                room,
+                list,
+                events,
+                values,
+                g,
+                Entered { how, item },
+            ) {
                 Part::Went(end, k) => {
                     x = behind(item);
                     at = end;

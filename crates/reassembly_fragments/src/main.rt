@@ -69,6 +69,7 @@ fn read<'a>(
         states,
         vec_refs,
         big_endian,
+        false,
         s,
         &mut events,
         &mut values,

@@ -4,7 +4,7 @@
 use Prim.Native.Nat.{ℕ, _+_, _*_, _/_, _≤_}
 use mathlib.Core.Path.{_≡_, refl, sym, ap, _∙_}
 use mathlib.Core.Logic.{_≢_, inl, inr}
-use mathlib.Core.Bool.{Bool, true, false, false≢true}
+use mathlib.Core.Bool.{true, false, false≢true}
 use mathlib.Core.List.{List, [], _∷_, _++_, append-assoc}
 use native.Mathlib.Nat.{mul-le-mul-right}
 use native.Mathlib.Omega.{arith}
@@ -14,6 +14,7 @@ use Rattle.tables.specs.Lists.{Lists, nth}
 use Rattle.tables.specs.Good as tables
 use Rattle.tables.specs.Good.Laws as good
 use Rattle.tables.specs.declared.Check.the-variants.{Passed}
+use Rattle.values.specs.declared.How.{How}
 use Rattle.values.specs.Value.Laws.{value-next}
 use Rattle.rules.specs.Vector.{actsEarly}
 use Rattle.rules.specs.Gather.{Act, time, write, stepEnd, Happening, at, single, of, ends, State, begin, happens}
@@ -159,7 +160,7 @@ module _ (t : Lists) (s : List ℕ) where
   pays-events = record {
     spare = 13;
     more = λ i j h. omega arith;
-    ofWrite = λ id q i v j e. omega (arith, value-next (nth (t .kinds) id) s i refl e .0);
+    ofWrite = λ how id q i v j e. omega (arith, value-next how (nth (t .kinds) id) s i refl e .0);
     ofHead = λ u i j h. omega arith;
     ofEnd = λ i j h. omega arith;
     ofTime = λ u i j h. omega arith;
@@ -170,7 +171,7 @@ module _ (t : Lists) (s : List ℕ) where
   pays-writes = record {
     spare = 0;
     more = λ i j h. omega arith;
-    ofWrite = λ id q i v j e. omega (arith, value-next (nth (t .kinds) id) s i refl e .0);
+    ofWrite = λ how id q i v j e. omega (arith, value-next how (nth (t .kinds) id) s i refl e .0);
     ofHead = λ u i j h. omega arith;
     ofEnd = λ i j h. omega arith;
     ofTime = λ u i j h. omega arith;
@@ -234,17 +235,17 @@ module _ (t : Lists) (input : ℕ) (l : Lent) (sc : Scan) where
 
 -- ---- section reading
 
-module _ (t : Lists) (flag : Bool) (s : List ℕ) (l : Lent) where
+module _ (t : Lists) (how : How) (s : List ℕ) (l : Lent) where
   pub sections-room : sectionEvents (length s) ≤ l .events → sectionValues t (length s) ≤ l .values
-      → readSections t flag s l .answer .number ≢ 16
+      → readSections t how s l .answer .number ≢ 16
   sections-room h g =
-      not-full t (length s) l (scanSections t flag s) (readSections t flag s l) (sections-2 t flag s l)
+      not-full t (length s) l (scanSections t how s) (readSections t how s l) (sections-2 t how s l)
       (λ w before a p q.
-      let c = covers-said eventCost (λ p. 13 * p) (length s) (scanSections t flag s) 0 before a p
-      (section.sections-covered t s eventCost (λ p. 13 * p) (pays-events t s) flag) q in
+      let c = covers-said eventCost (λ p. 13 * p) (length s) (scanSections t how s) 0 before a p
+      (section.sections-covered t s eventCost (λ p. 13 * p) (pays-events t s) how) q in
       let d = covers-said one
-      (λ p. p) (length s) (scanSections t flag s) 0 before a p
-      (section.sections-covered t s one (λ p. p) (pays-writes t s) flag) q in
+      (λ p. p) (length s) (scanSections t how s) 0 before a p
+      (section.sections-covered t s one (λ p. p) (pays-writes t s) how) q in
       let few : writesIn (before ++ a ∷ []) ≤ length s = omega (arith, d .0, d .1, one-costs (before ++ a ∷ [])) in (
         omega (arith, c .0, c .1, event-costs (before ++ a ∷ []), made-size t (before ++ a ∷ [])),
         omega (arith, made-values t (before ++ a ∷ []) (widest t) w, mul-le-mul-right (widest t) few),

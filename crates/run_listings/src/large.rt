@@ -77,6 +77,7 @@ fn run<'a>(
         first_bytes(kinds, 0),
         first_numbers(refs, 0),
         false,
+        false,
         input,
         &mut events,
         &mut values,

@@ -35,7 +35,7 @@ pub(crate) fn integers(label: &[u8], s: &[u8], at: usize) {
     by_flag(b": big ", true, s, at);
     by_flag(b", little ", false, s, at);
     text::say(b", real ");
-    text::decimal(fixed::read_f64_le(s, at));
+    text::decimal(fixed::read_i64(false, s, at));
     text::say(b"\n");
 }
 

@@ -9,6 +9,7 @@ ghost use Prim.Native.Nat.{_≤_};
 
 pub(crate) const ENTRY: usize = 0;
 
+// The flag, and 2 more where reals follow it.
 pub(crate) const FLAG: usize = 1;
 
 // Lengths of the lists of numbers.

@@ -30,6 +30,7 @@ fn sections<'a>(
         states,
         vec_refs,
         big_endian,
+        false,
         s,
         events,
         values,

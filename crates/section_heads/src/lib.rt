@@ -5,14 +5,10 @@ use numbers::fixed::read_u32;
 use numbers::marks::is_mark;
 use slices::Field;
 use slices::field_at;
+use values::How;
 ghost use mathlib.Core.Path.{_≡_};
 ghost use Rattle.section_heads.specs.Heads.{standing, goes, passes, begins, stops, bad};
 ghost use Rattle.section_heads.specs.Heads.{openSnapshot, openCycle, openDirectory, openTailer};
-
-// How bytes are read.
-pub struct How {
-    pub big_endian: bool,
-}
 
 pub enum Phase {
     // At a section's mark.

@@ -1,7 +1,6 @@
 // Section bytes, one item at a time: what section reading, reading back and explaining share. Nothing of memory or vectors.
 use numbers::marks::ECY;
 use numbers::marks::ESN;
-use section_heads::How;
 use section_heads::Item;
 use section_heads::Phase;
 use section_heads::Said;
@@ -17,6 +16,7 @@ use sections::NextTime;
 use sections::next_of;
 use sections::next_time;
 use sections::signal_kind;
+use values::How;
 use values::Read;
 use values::read_narrow;
 use values::read_real;
@@ -41,8 +41,8 @@ pub fn after_values(phase: Phase) -> Phase
 }
 
 // The value of a kind. Not `values::read_value`: section reading calls that once, and so its loop takes it in.
-fn value_at(kind: u8, s: &[u8], at: usize) -> Read
-    ensures { λ r. ⌜ r ≡ value kind (now (s .entry)) at ⌝ }
+fn value_at(how: How, kind: u8, s: &[u8], at: usize) -> Read
+    ensures { λ r. ⌜ r ≡ value how kind (now (s .entry)) at ⌝ }
 {
     if kind <= 4 {
         return read_narrow(kind, s, at);
@@ -50,16 +50,16 @@ fn value_at(kind: u8, s: &[u8], at: usize) -> Read
     if kind == 5 {
         return read_signed(s, at);
     }
-    read_real(s, at)
+    read_real(how, s, at)
 }
 
 // The value of an id.
-fn write_item(kinds: &[u8], s: &[u8], x: Stand, id: usize, at: usize) -> Item
+fn write_item(kinds: &[u8], how: How, s: &[u8], x: Stand, id: usize, at: usize) -> Item
     requires { ⌜ IdOf (now kinds) id ⌝ }
-    ensures { λ r. ⌜ r ≡ writeItem (now (kinds .entry)) (now (s .entry)) x id at ⌝ }
+    ensures { λ r. ⌜ r ≡ writeItem (now (kinds .entry)) how (now (s .entry)) x id at ⌝ }
 {
     let phase = x.phase;
-    match value_at(signal_kind(kinds, id), s, at) {
+    match value_at(how, signal_kind(kinds, id), s, at) {
         Read::Value(value, end) => goes(
             end,
             Said::Write { value, id },
@@ -70,9 +70,9 @@ fn write_item(kinds: &[u8], s: &[u8], x: Stand, id: usize, at: usize) -> Item
 }
 
 // The value of the next id, or the step's end.
-pub fn value_item(kinds: &[u8], s: &[u8], x: Stand, at: usize) -> Item
+pub fn value_item(kinds: &[u8], how: How, s: &[u8], x: Stand, at: usize) -> Item
     requires { ⌜ x .id ≤ length (now kinds) ⌝ }
-    ensures { λ r. ⌜ r ≡ valueItem (now (kinds .entry)) (now (s .entry)) x at ⌝ }
+    ensures { λ r. ⌜ r ≡ valueItem (now (kinds .entry)) how (now (s .entry)) x at ⌝ }
 {
     let phase = x.phase;
     match next_of(phase, kinds, s, x.id, at) {
@@ -84,7 +84,7 @@ pub fn value_item(kinds: &[u8], s: &[u8], x: Stand, at: usize) -> Item
                     standing(after_values(phase), 0, x.time),
                 );
             }
-            write_item(kinds, s, x, found as usize, next)
+            write_item(kinds, how, s, x, found as usize, next)
         }
         Read::Bad(number, place) => bad(place, number),
     }
@@ -132,7 +132,7 @@ pub fn next_item(kinds: &[u8], how: How, s: &[u8], x: Stand, at: usize) -> Item
 {
     let phase = x.phase;
     if in_values(phase) {
-        return value_item(kinds, s, x, at);
+        return value_item(kinds, how, s, x, at);
     }
     head_item(how, s, x, at)
 }

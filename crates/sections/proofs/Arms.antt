@@ -12,7 +12,7 @@ use Rattle.section_heads.specs.declared.Phase.{Phase}
 use Rattle.section_heads.specs.declared.Phase.the-variants.{Mark, Entries, Each, Closing, Listed, Between}
 use Rattle.sections.specs.Item.Scans.{ends}
 use Prim.Native.Nat.{ℕ}
-use Rattle.section_heads.specs.declared.How.{How}
+use Rattle.values.specs.declared.How.{How}
 use Rattle.section_heads.specs.declared.Stand.{Stand}
 use Rattle.section_heads.specs.declared.Item.{Item}
 use Rattle.section_heads.proofs.Said as said

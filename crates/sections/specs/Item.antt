@@ -18,7 +18,7 @@ use Rattle.sections.specs.declared.NextTime.the-variants as next
 use Rattle.numbers.specs.Marks.{ecy, esn}
 use Rattle.section_scan.specs.declared.NextId.{NextId}
 use Rattle.section_scan.specs.declared.NextId.the-variants as ids
-use Rattle.section_heads.specs.declared.How.{How}
+use Rattle.values.specs.declared.How.{How}
 use Rattle.section_heads.specs.declared.Phase.{Phase}
 use Rattle.section_heads.specs.declared.Phase.the-variants.{Mark, Entries, Each, Closing, Listed, Between}
 use Rattle.section_heads.specs.declared.Stand.{Stand}
@@ -91,18 +91,19 @@ module _ (kinds s : List ℕ) where
   unfoldable pub nextOf : Phase → (id i : ℕ) → Read
   nextOf p id i = cond (isEach p) (eachId id i) (idIn id i)
 
+module _ (kinds : List ℕ) (how : How) (s : List ℕ) where
   -- the value of an id
   unfoldable pub writeItem : Stand → (id i : ℕ) → Item
-  writeItem x id i = onRead (value (nth kinds id) s i) bad (λ v j. goes j (Write v id) (standing (x .phase) id (x .time)))
+  writeItem x id i = onRead (value how (nth kinds id) s i) bad (λ v j. goes j (Write v id) (standing (x .phase) id (x .time)))
 
   -- "each followed by a value; delta 0 ends it"
   unfoldable pub foundItem : Stand → (id i : ℕ) → Item
   foundItem x id i = cond (eqb id 0) (goes i StepEnd (standing (afterValues (x .phase)) 0 (x .time))) (writeItem x id i)
 
   unfoldable pub valueItem : Stand → ℕ → Item
-  valueItem x i = onRead (nextOf (x .phase) (x .id) i) bad (λ id j. foundItem x id j)
+  valueItem x i = onRead (nextOf kinds s (x .phase) (x .id) i) bad (λ id j. foundItem x id j)
 
 -- ---- any item
 
 unfoldable pub nextItem : (kinds : List ℕ) → How → List ℕ → Stand → ℕ → Item
-nextItem kinds how s x i = cond (inValues (x .phase)) (valueItem kinds s x i) (headItem how s x i)
+nextItem kinds how s x i = cond (inValues (x .phase)) (valueItem kinds how s x i) (headItem how s x i)

@@ -20,7 +20,7 @@ use Rattle.rules.specs.Scan.{Scan, say, and-then}
 use Rattle.section_scan.specs.Sections.{nextId, oneChange, changeList, nextTime, oneStep, steps, sections}
 use Rattle.section_scan.specs.Sections.Deltas.{id-found, id-same}
 use Rattle.section_scan.specs.declared.NextId.the-variants.{Id}
-use Rattle.section_heads.specs.declared.How.{How}
+use Rattle.values.specs.declared.How.{How}
 use Rattle.section_heads.specs.declared.Phase.the-variants.{Listed}
 use Rattle.section_heads.specs.Heads.{standing}
 use Rattle.sections.specs.Item.Scans.{scanFrom, Left}
@@ -60,16 +60,16 @@ module _ {t : Lists} (k : Tabled t) {v : ℕ} (known : v < length (t .mins)) whe
         sym (id-same t s (max - left) at)
         ∙ (sym (id-found (t .kinds) s (max - left) at e refl (λ z. omega (arith, a .some)) (omega (arith, most)) (omega (arith, most, within, a .above))) ∙ ap (λ (n : ℕ). Id n (at + 1)) sum)
 
-    read : value (nth (t .kinds) (max - (left - d))) s (at + 1) ≡ Value (bitMap (layoutOf t .state v) (getD s (at + 1) 0)) (at + 2)
-    read =
+    read : (how : How) → value how (nth (t .kinds) (max - (left - d))) s (at + 1) ≡ Value (bitMap (layoutOf t .state v) (getD s (at + 1) 0)) (at + 2)
+    read how =
         let e : at + 1 + 1 ≡ at + 2 = omega arith in
-        sym (rw e at (of-state k v (max - (left - d)) known above below .reads s (at + 1) (byte-found _ (bitMap (layoutOf t .state v)) s (at + 1) (omega arith) (a .good) _ refl)))
+        sym (rw e at (of-state k v (max - (left - d)) known above below .reads how s (at + 1) (byte-found _ (bitMap (layoutOf t .state v)) s (at + 1) (omega arith) (a .good) _ refl)))
 
-    one-along : (f : ℕ)
-        → changeList t s (suc f) (max - left) at
-        ≡ say (write (max - (left - d)) (bitMap (layoutOf t .state v) (getD s (at + 1) 0)) (at + 1)) (at + 2) (changeList t s f (max - (left - d)) (at + 2))
+    one-along : (how : How) (f : ℕ)
+        → changeList t how s (suc f) (max - left) at
+        ≡ say (write (max - (left - d)) (bitMap (layoutOf t .state v) (getD s (at + 1) 0)) (at + 1)) (at + 2) (changeList t how s f (max - (left - d)) (at + 2))
     unfolding changeList oneChange onRead
-    one-along f = rw (found, read)
+    one-along how f = rw (found, read how)
 
   -- ---- all of them
 
@@ -80,22 +80,22 @@ module _ {t : Lists} (k : Tabled t) {v : ℕ} (known : v < length (t .mins)) whe
   said-then (more a h w p q) rest n = said-then a _ n
 
   -- a change list from its bit `left` on
-  pub record Listing (s : List ℕ) (f left at : ℕ) (left' at' : ℕ) (says : Scan → Scan) : Type 0 where
+  pub record Listing (how : How) (s : List ℕ) (f left at : ℕ) (left' at' : ℕ) (says : Scan → Scan) : Type 0 where
     pub fuel : ℕ
     pub enough : length s ≤ at' + fuel
     pub inside : left' < layoutOf t .width v
     pub ahead : at ≤ at'
     pub within : at' ≤ length s
-    pub is : changeList t s f (max - left) at ≡ says (changeList t s fuel (max - left') at')
+    pub is : changeList t how s f (max - left) at ≡ says (changeList t how s fuel (max - left') at')
 
-  along-list : {s room : List ℕ} {left at : ℕ} {room' : List ℕ} {left' at' : ℕ} (a : Along (infoAt (layoutOf t) v) s room left at room' left' at') → left < layoutOf t .width v → (f : ℕ) → length s ≤ at + f → at ≤ length s
-      → Listing s f left at left' at' (said max a)
+  along-list : (how : How) {s room : List ℕ} {left at : ℕ} {room' : List ℕ} {left' at' : ℕ} (a : Along (infoAt (layoutOf t) v) s room left at room' left' at') → left < layoutOf t .width v → (f : ℕ) → length s ≤ at + f → at ≤ length s
+      → Listing how s f left at left' at' (said max a)
   unfolding said
-  along-list none inside f e h = record { fuel = f; enough = e; inside = inside; ahead = omega arith; within = h; is = refl }
-  along-list {s} {left = left} {at} (more {left₁ = left₁} {left₂ = left₂} {at₁ = at₁} {at₂ = at₂} a here w p q) inside f e h = on (along-list a inside f e h)
+  along-list how none inside f e h = record { fuel = f; enough = e; inside = inside; ahead = omega arith; within = h; is = refl }
+  along-list how {s} {left = left} {at} (more {left₁ = left₁} {left₂ = left₂} {at₁ = at₁} {at₂ = at₂} a here w p q) inside f e h = on (along-list how a inside f e h)
     where
-      last : (n : ℕ) → length s ≤ at₁ + n → left₁ < layoutOf t .width v → at ≤ at₁ → changeList t s f (max - left) at ≡ said max a (changeList t s n (max - left₁) at₁)
-          → Listing s f left at left₂ at₂ (said max (more a here w p q))
+      last : (n : ℕ) → length s ≤ at₁ + n → left₁ < layoutOf t .width v → at ≤ at₁ → changeList t how s f (max - left) at ≡ said max a (changeList t how s n (max - left₁) at₁)
+          → Listing how s f left at left₂ at₂ (said max (more a here w p q))
       last zero l i j y = absurd (omega arith)
       last (suc n) l i j y =
           record {
@@ -104,10 +104,10 @@ module _ {t : Lists} (k : Tabled t) {v : ℕ} (known : v < length (t .mins)) whe
             inside = omega (arith, p);
             ahead = omega (arith, q);
             within = omega (arith, q, here);
-            is = y ∙ ap (said max a) (rw (p, q) (one-along i here w n));
+            is = y ∙ ap (said max a) (rw (p, q) (one-along i here w how n));
           }
 
-      on : Listing s f left at left₁ at₁ (said max a) → Listing s f left at left₂ at₂ (said max (more a here w p q))
+      on : Listing how s f left at left₁ at₁ (said max a) → Listing how s f left at left₂ at₂ (said max (more a here w p q))
       on y = last (y .fuel) (y .enough) (y .inside) (y .ahead) (y .is)
 
   -- ---- in a section
@@ -139,11 +139,11 @@ module _ {t : Lists} (k : Tabled t) {v : ℕ} (known : v < length (t .mins)) whe
         ahead = y .ahead;
       }
     where
-      y : Listing s (l .fL) left at left' at' (said max a)
-      y = along-list a inside (l .fL) (l .enough .lists) (l .inside)
+      y : Listing how s (l .fL) left at left' at' (said max a)
+      y = along-list how a inside (l .fL) (l .enough .lists) (l .inside)
 
       after-list : ℕ → Scan
-      after-list j = say stepEnd j (oneStep t (how .«big_endian») s (nextTime s u j) (λ u′ e. steps t (how .«big_endian») s (l .fS) u′ e))
+      after-list j = say stepEnd j (oneStep t how s (nextTime s u j) (λ u′ e. steps t how s (l .fS) u′ e))
 
       after-section : ℕ → Scan
-      after-section j = sections t (how .«big_endian») s (l .fT) j
+      after-section j = sections t how s (l .fT) j

@@ -13,7 +13,7 @@ use Rattle.values.specs.declared.Read.the-variants as read
 use Rattle.values.specs.Value.{onRead, value}
 use Rattle.rules.specs.Scan.{Scan}
 use Rattle.gather.specs.Memory.{Tabled}
-use Rattle.section_heads.specs.declared.How.{How}
+use Rattle.values.specs.declared.How.{How}
 use Rattle.section_heads.specs.declared.Phase.the-variants.{Listed}
 use Rattle.section_heads.specs.declared.Stand.{Stand}
 use Rattle.section_heads.specs.declared.Said.{Said}
@@ -44,35 +44,35 @@ ValueBy x (Bad n) y = Unit {0}
 abbrev pub IsValue : Stand → Item → Type 0
 IsValue x y = ValueBy x (y .said) (y .then)
 
-module _ (kinds s : List ℕ) (x : Stand) where
-  write-says : (id i : ℕ) → IsValue x (writeItem kinds s x id i)
+module _ (kinds : List ℕ) (how : How) (s : List ℕ) (x : Stand) where
+  write-says : (id i : ℕ) → IsValue x (writeItem kinds how s x id i)
   unfolding writeItem onRead
-  write-says id i = by (value (nth kinds id) s i)
+  write-says id i = by (value how (nth kinds id) s i)
     where
       by : (r : Read) → IsValue x (onRead r bad (λ v j. goes j (Write v id) (standing (x .phase) id (x .time))))
       by (read.Value v j) = refl
       by (read.Bad n p) = tt
 
-  found-says : (id i : ℕ) → IsValue x (foundItem kinds s x id i)
+  found-says : (id i : ℕ) → IsValue x (foundItem kinds how s x id i)
   unfolding foundItem
   found-says id i = cond-ind (eqb id 0) _ _ (IsValue x) (λ z. refl) (λ z. write-says id i)
 
-  pub value-says : (i : ℕ) → IsValue x (valueItem kinds s x i)
+  pub value-says : (i : ℕ) → IsValue x (valueItem kinds how s x i)
   unfolding valueItem onRead
   value-says i = by (nextOf kinds s (x .phase) (x .id) i)
     where
-      by : (r : Read) → IsValue x (onRead r bad (λ id j. foundItem kinds s x id j))
+      by : (r : Read) → IsValue x (onRead r bad (λ id j. foundItem kinds how s x id j))
       by (read.Value id j) = found-says id j
       by (read.Bad n p) = tt
 
 -- ---- the scan where a reading stands
 
 module _ (t : Lists) (how : How) (s : List ℕ) (x : Stand) (i : ℕ) where
-  is-value : inValues (x .phase) ≡ true → nextItem (t .kinds) how s x i ≡ valueItem (t .kinds) s x i
+  is-value : inValues (x .phase) ≡ true → nextItem (t .kinds) how s x i ≡ valueItem (t .kinds) how s x i
   unfolding nextItem
   is-value e = rw e
 
-value-follows : {t : Lists} {how : How} {s : List ℕ} {x : Stand} {i : ℕ} {sc : Scan} → Left t how s x i sc → inValues (x .phase) ≡ true → Follows t how s (rank (x .phase)) i sc (valueItem (t .kinds) s x i)
+value-follows : {t : Lists} {how : How} {s : List ℕ} {x : Stand} {i : ℕ} {sc : Scan} → Left t how s x i sc → inValues (x .phase) ≡ true → Follows t how s (rank (x .phase)) i sc (valueItem (t .kinds) how s x i)
 value-follows {t} {how} {s} {x} {i} {sc} l e = subst (Follows t how s (rank (x .phase)) i sc) (is-value t how s x i e) (item-follows t how s x i l)
 
 module _ (t : Lists) (how : How) (s : List ℕ) (x : Stand) (i : ℕ) (sc : Scan) (y : Item) where
@@ -105,15 +105,15 @@ module _ (t : Lists) (how : How) (s : List ℕ) (x : Stand) (i : ℕ) (sc : Scan
 -- an act is said and then what is left behind it, or a refusal
 module _ {t : Lists} {how : How} {s : List ℕ} {x : Stand} {i : ℕ} {sc : Scan} (l : Left t how s x i sc) (e : inValues (x .phase) ≡ true) where
   abbrev y : Item
-  y = valueItem (t .kinds) s x i
+  y = valueItem (t .kinds) how s x i
 
-  pub value-said : SaidAt (Left t how s (valueItem (t .kinds) s x i .then) (valueItem (t .kinds) s x i .at)) (valueItem (t .kinds) s x i) sc
-  value-said = says-by t how s x i sc y (y .said) refl (value-says (t .kinds) s x i) (value-follows l e)
+  pub value-said : SaidAt (Left t how s (valueItem (t .kinds) how s x i .then) (valueItem (t .kinds) how s x i .at)) (valueItem (t .kinds) how s x i) sc
+  value-said = says-by t how s x i sc y (y .said) refl (value-says (t .kinds) how s x i) (value-follows l e)
 
-  pub value-act : (c : Gathered) → (isWrite (valueItem (t .kinds) s x i .said) ≡ true → c .ended ≡ 0) → ActBy t c (valueItem (t .kinds) s x i .then) (valueItem (t .kinds) s x i .said)
-  value-act c b = act-by t how s x i sc y (y .said) (value-says (t .kinds) s x i) (value-follows l e) c b
+  pub value-act : (c : Gathered) → (isWrite (valueItem (t .kinds) how s x i .said) ≡ true → c .ended ≡ 0) → ActBy t c (valueItem (t .kinds) how s x i .then) (valueItem (t .kinds) how s x i .said)
+  value-act c b = act-by t how s x i sc y (y .said) (value-says (t .kinds) how s x i) (value-follows l e) c b
 
-  pub value-ahead : isAct (valueItem (t .kinds) s x i .said) ≡ true → toRead s (valueItem (t .kinds) s x i .then) (valueItem (t .kinds) s x i .at) < toRead s x i
+  pub value-ahead : isAct (valueItem (t .kinds) how s x i .said) ≡ true → toRead s (valueItem (t .kinds) how s x i .then) (valueItem (t .kinds) how s x i .at) < toRead s x i
   value-ahead a = ahead-by t how s x i sc y (y .said) a (value-follows l e)
 
 -- ---- behind an item, after changes along a vector

@@ -12,14 +12,22 @@ use section_heads::Item;
 use section_heads::Stand;
 use section_heads::standing;
 use section_items::value_item;
+use values::How;
 use vector_turns::next_step;
 ghost use Rattle.sections.specs.Item.{valueItem};
 ghost use Rattle.item_acts.specs.Acts.{Acts};
 ghost use Rattle.item_turns.specs.Lent.{tables, lent, before, after};
 ghost use Rattle.value_readings.specs.Values.{PlaceAsks, ValuesAsk, Values};
 
-// Where a reading stands among the values of a step.
+// A step that is entered: how its bytes are read, and the item that said its time.
+pub struct Entered {
+    pub how: How,
+    pub item: Item,
+}
+
+// Where a reading stands among the values of a step, and how bytes are read there.
 struct Place {
+    how: How,
     x: Stand,
     at: usize,
 }
@@ -36,14 +44,14 @@ fn one_value<'a>(
     g: Gathered,
     p: Place,
 ) -> Acted
-    requires { ⌜ PlaceAsks (tables b n) (now s) (lent room list events values) g (p .x) (p .at) ⌝ }
+    requires { ⌜ PlaceAsks (tables b n) (p .how) (now s) (lent room list events values) g (p .x) (p .at) ⌝ }
     ensures { λ r.
         let t = tables (b .entry) (n .entry) in
-        let item = valueItem (t .kinds) (now (s .entry)) (p .x) (p .at) in
+        let item = valueItem (t .kinds) (p .how) (now (s .entry)) (p .x) (p .at) in
         ⌜ Acts t (now (s .entry)) (before room list events values) g item (after room list events values) r ⌝ }
 {
     let kinds = b[KINDS];
-    let item = value_item(kinds, s, p.x, p.at);
+    let item = value_item(kinds, p.how, s, p.x, p.at);
     act_item(b, n, s, room, list, events, values, g, item)
 }
 
@@ -57,22 +65,24 @@ pub fn read_values<'a>(
     events: &mut [u8],
     values: &mut [u8],
     c: Gathered,
-    opened: Item,
+    e: Entered,
 ) -> Part
-    requires { ⌜ ValuesAsk (tables b n) (now s) (lent room list events values) c opened ⌝ }
+    requires { ⌜ ValuesAsk (tables b n) (now s) (lent room list events values) c (e .item) ⌝ }
     ensures { λ r.
         let t = tables (b .entry) (n .entry) in
-        ⌜ Values t (now (s .entry)) (before room list events values) c opened (after room list events values) r ⌝ }
+        ⌜ Values t (e .how) (now (s .entry)) (before room list events values) c (e .item) (after room list events values) r ⌝ }
 {
-    let from = opened.then;
+    let how = e.how;
+    let item = e.item;
+    let from = item.then;
     let phase = from.phase;
     let time = from.time;
     let mut id: usize = 0;
-    let mut at = opened.at;
+    let mut at = item.at;
     let mut g = c;
     loop {
         let x = standing(phase, id, time);
-        let w = one_value(b, n, s, room, list, events, values, g, Place { x, at });
+        let w = one_value(b, n, s, room, list, events, values, g, Place { how, x, at });
         let tag = w.tag;
         match tag {
             Tag::On => {

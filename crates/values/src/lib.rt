@@ -1,14 +1,19 @@
 // Values of signals, read from section bytes: one reader for each kind.
 use leb128::Leb;
-use numbers::fixed::read_f64_le;
+use numbers::fixed::read_i64;
 use slices::Field;
 use slices::field_at;
 use slices::u64_of_byte;
 use states::std_logic;
 ghost use mathlib.Core.Path.{_≡_};
-ghost use Prim.Native.Nat.{_≤_};
 ghost use Rattle.states.specs.Letters.{mapped};
-ghost use Rattle.values.specs.Value.{number, unsigned, signed, byteUpTo, real, value};
+ghost use Rattle.values.specs.Value.{number, unsigned, signed, byteUpTo, bigReal, real, narrow, value};
+
+// How bytes are read: by the flag, and reals too or little-endian whatever it says.
+pub struct How {
+    pub big_endian: bool,
+    pub reals_by_flag: bool,
+}
 
 // What was read and the place after it, or a refusal's number and place.
 pub enum Read {
@@ -70,20 +75,30 @@ pub fn read_nine_state(s: &[u8], at: usize) -> Read
     }
 }
 
+// Whether a real has its highest byte first.
+fn big_real(how: How) -> bool
+    ensures { λ r. ⌜ r ≡ bigReal how ⌝ }
+{
+    if how.reals_by_flag {
+        how.big_endian
+    } else {
+        false
+    }
+}
+
 // The bits of a real.
-pub fn read_real(s: &[u8], at: usize) -> Read
-    ensures { λ r. ⌜ r ≡ real (now (s .entry)) at ⌝ }
+pub fn read_real(how: How, s: &[u8], at: usize) -> Read
+    ensures { λ r. ⌜ r ≡ real how (now (s .entry)) at ⌝ }
 {
     match field_at(s, at, 8) {
-        Field::Next(next) => Read::Value(read_f64_le(s, at), next),
+        Field::Next(next) => Read::Value(read_i64(big_real(how), s, at), next),
         Field::Short => Read::Bad(7, at),
     }
 }
 
 // The value of a kind that takes one byte.
 pub fn read_narrow(kind: u8, s: &[u8], at: usize) -> Read
-    requires { ⌜ kind ≤ 4 ⌝ }
-    ensures { λ r. ⌜ r ≡ value kind (now (s .entry)) at ⌝ }
+    ensures { λ r. ⌜ r ≡ narrow kind (now (s .entry)) at ⌝ }
 {
     if kind <= 1 {
         return read_nine_state(s, at);
@@ -94,8 +109,8 @@ pub fn read_narrow(kind: u8, s: &[u8], at: usize) -> Read
     read_byte(s, at, 255)
 }
 
-pub fn read_value(kind: u8, s: &[u8], at: usize) -> Read
-    ensures { λ r. ⌜ r ≡ value kind (now (s .entry)) at ⌝ }
+pub fn read_value(how: How, kind: u8, s: &[u8], at: usize) -> Read
+    ensures { λ r. ⌜ r ≡ value how kind (now (s .entry)) at ⌝ }
 {
     if kind <= 4 {
         return read_narrow(kind, s, at);
@@ -103,5 +118,5 @@ pub fn read_value(kind: u8, s: &[u8], at: usize) -> Read
     if kind == 5 {
         return read_signed(s, at);
     }
-    read_real(s, at)
+    read_real(how, s, at)
 }

@@ -23,6 +23,7 @@ use Rattle.rules.specs.Scan.{Scan, Ends}
 use Rattle.section_scan.specs.Sections.{scanSections}
 use Rattle.changes.specs.Changes.{scanChanges}
 use Rattle.checks.specs.Checked.{checksWithoutRoom, without-number, without-limits, without-alike}
+use Rattle.values.specs.Value.{ordinary}
 use Rattle.sections_writer.specs.Writer as writer
 use Rattle.read_back.specs.ReadBack as back
 use Rattle.written_scans.specs.Reread.Refused.{Comes, Own, writes-as, Full, gives-as}
@@ -71,7 +72,7 @@ pub record WriteDemand (t : Lists) (flag : Bool) (s : List ℕ) (room : ℕ) (x 
   -- a stream that change reading scans to its end
   pub read : x .answer .number ≡ 0 → Ends (x .answer .read) (scanChanges t s)
   -- "Where the written bytes are within the section limit, reading them gives the same events as change reading", whatever is lent; `s` are bytes, as every input is
-  pub same : Bytes s → x .answer .number ≡ 0 → x .answer .events ≤ 16777215 → (l : Lent) → Alike (readSections t flag (reported x) l) (readChanges t s l)
+  pub same : Bytes s → x .answer .number ≡ 0 → x .answer .events ≤ 16777215 → (l : Lent) → Alike (readSections t (ordinary flag) (reported x) l) (readChanges t s l)
   -- ".. and reading what we wrote back into change records and writing again gives the same bytes": with room for the stream, it comes back itself
   pub again : Bytes s → x .answer .number ≡ 0 → x .answer .events ≤ 16777215 → (back : ℕ) → length s ≤ back → back ≤ 1073741823 → Again t flag s room x (readBack t flag (reported x) back)
 
@@ -81,7 +82,7 @@ pub record WriteDemand (t : Lists) (flag : Bool) (s : List ℕ) (room : ℕ) (x 
 pub record BackDemand (t : Lists) (flag : Bool) (s : List ℕ) (room : ℕ) (x : LeftKept) : Type 0 where
   -- the records of what the sections say
   pub records : x .answer .number ≡ 0 → back.readBack t flag s room ≡ wrote (x .answer .read) (reported x) (x .answer .steps)
-  pub read : x .answer .number ≡ 0 → Ends (x .answer .read) (scanSections t flag s)
+  pub read : x .answer .number ≡ 0 → Ends (x .answer .read) (scanSections t (ordinary flag) s)
 
 -- ---- their proofs
 
@@ -207,11 +208,11 @@ module _ (t : Lists) (flag : Bool) (s : List ℕ) (room : ℕ) where
 module _ (t : Lists) (flag : Bool) (s : List ℕ) (room : ℕ) where
   pub back-1 : Demand1 t (length s) room (readBack t flag s room)
   unfolding readBack
-  back-1 = demand1 Full full-number t (length s) room (scanSections t flag s) (sections-scanned t flag s) (back.readBack t flag s room) (gives-as t room flag s)
+  back-1 = demand1 Full full-number t (length s) room (scanSections t (ordinary flag) s) (sections-scanned t (ordinary flag) s) (back.readBack t flag s room) (gives-as t room flag s)
 
   pub back-2 : BackDemand t flag s room (readBack t flag s room)
   unfolding readBack leavesKept
   back-2 = record {
-    records = λ h. accepted-as Full full-number t (length s) room (scanSections t flag s) (sections-scanned t flag s) (back.readBack t flag s room) (gives-as t room flag s) h .1;
-    read = read-there Full full-number t (length s) room (scanSections t flag s) (sections-scanned t flag s) (back.readBack t flag s room) (gives-as t room flag s);
+    records = λ h. accepted-as Full full-number t (length s) room (scanSections t (ordinary flag) s) (sections-scanned t (ordinary flag) s) (back.readBack t flag s room) (gives-as t room flag s) h .1;
+    read = read-there Full full-number t (length s) room (scanSections t (ordinary flag) s) (sections-scanned t (ordinary flag) s) (back.readBack t flag s room) (gives-as t room flag s);
   }

@@ -11,6 +11,8 @@ use Rattle.tables.specs.Lists.{Lists}
 use Rattle.tables.specs.Checks.{check1, checks}
 use Rattle.tables.specs.declared.Check.{Check}
 use Rattle.tables.specs.declared.Check.the-variants.{Passed, Refused}
+use Rattle.values.specs.Value.{ordinary}
+use Rattle.event_rooms.specs.Out.{Rooms}
 use Rattle.event_rooms.specs.Out.{Rooms}
 use Rattle.gather.specs.Run.{Went, went, out, runAll}
 use Rattle.section_scan.specs.Sections.{scanSections}
@@ -70,20 +72,20 @@ pub record Alike (x y : Left) : Type 0 where
   pub steps : x .answer .steps ≡ y .answer .steps
 
 module _ (t : Lists) (flag : Bool) (s : List ℕ) (room read : ℕ) (bs : List ℕ) (n : ℕ) (b : Bytes s) (e : writeSections t flag s room ≡ wrote read bs n) (h : length bs ≤ 16777215) (g : length s ≤ 16777215) (l : Lent) where
-  pub same-outcome : bareOutcome (reads t (length bs) l (scanSections t flag bs)) ≡ bareOutcome (reads t (length s) l (scanChanges t s))
+  pub same-outcome : bareOutcome (reads t (length bs) l (scanSections t (ordinary flag) bs)) ≡ bareOutcome (reads t (length s) l (scanChanges t s))
   unfolding reads
   same-outcome =
       let r : Rooms = record { events = l .events; values = l .values } in
       let c = checks t (length bs) (l .events) (l .values) (l .room) (l .list) in
-      let x = runAll t r (scanSections t flag bs) in
+      let x = runAll t r (scanSections t (ordinary flag) bs) in
       let y = runAll t r (scanChanges t s) in
       checked-bare c (outcome x) (outcome y) (outcome-bare x ∙ (ap outcome (same-events t r flag s room read bs n b e) ∙ sym (outcome-bare y)))
       ∙ ap (λ d. bareOutcome (checked d (outcome y))) (checks-alike t (length bs) (length s) (l .events) (l .values) (l .room) (l .list) h g)
 
-  pub same-left : Alike (readSections t flag bs l) (readChanges t s l)
+  pub same-left : Alike (readSections t (ordinary flag) bs l) (readChanges t s l)
   unfolding readSections readChanges leaves
   same-left =
-      let x = reads t (length bs) l (scanSections t flag bs) in
+      let x = reads t (length bs) l (scanSections t (ordinary flag) bs) in
       let y = reads t (length s) l (scanChanges t s) in
       record {
         events = ap (padded (l .events)) (events-bare x ∙ (ap eventBytes same-outcome ∙ sym (events-bare y)));

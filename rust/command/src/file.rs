@@ -6,7 +6,7 @@ use crate::times;
 use crate::walk::{closed, walk, Walk, Whole};
 use crate::work::Work;
 use doorquill::ghw::{self, HeaderFault, Trace};
-use doorquill::{read_sections, Reading, MOST_SECTION_BYTES, MOST_SIGNALS, MOST_VECTORS};
+use doorquill::{read_sections_as, How, Reading, MOST_SECTION_BYTES, MOST_SIGNALS, MOST_VECTORS};
 use std::ffi::OsStr;
 use std::io::{Read, Write};
 
@@ -60,9 +60,14 @@ impl File {
         err: &mut dyn Write,
     ) -> Result<(Reading, bool), Stop> {
         self.limits(trace)?;
-        let mut read = |sections: &[u8]| {
-            work.part("reading", &self.name, || read_sections(trace.tables(), trace.big_endian(), sections))
-        };
+        let how = How { big_endian: trace.big_endian(), reals_by_flag: !options.wellen_reals };
+        if how.big_endian && trace.tables().has_reals() {
+            let order =
+                if how.reals_by_flag { "big-endian, as its header says" } else { "little-endian, as wellen does" };
+            let _ = writeln!(err, "{}: reals are read {order}", self.name);
+        }
+        let mut read =
+            |sections: &[u8]| work.part("reading", &self.name, || read_sections_as(trace.tables(), how, sections));
         let refusal = match read(trace.sections()) {
             Ok(reading) => {
                 if options.salvage {

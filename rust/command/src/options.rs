@@ -26,6 +26,7 @@ doorquill: the waveforms of the VHDL simulator GHDL, from a .ghw file to an answ
 Options
   --json       results for a script: a JSON object to the line, times in femtoseconds
   --salvage    reads a file that a killed simulation left, up to its last whole step
+  --reals=rust reads the reals of a big-endian file as wellen does, little-endian
   --timings    says on standard error what each part of the work took
   --help, --version
 
@@ -71,6 +72,8 @@ pub struct Options {
     pub as_bits: bool,
     pub json: bool,
     pub salvage: bool,
+    /// Reals are little-endian whatever the header says, as wellen reads them.
+    pub wellen_reals: bool,
     pub timings: bool,
 }
 
@@ -78,9 +81,9 @@ pub struct Options {
 fn allowed(which: Which) -> &'static [&'static str] {
     match which {
         Which::Signals => &["json"],
-        Which::Events => &["signal", "from", "to", "raw", "json", "salvage"],
-        Which::Fragments => &["session", "strobe", "close", "at", "as-bits", "json", "salvage"],
-        Which::Check => &["json", "salvage"],
+        Which::Events => &["signal", "from", "to", "raw", "json", "salvage", "reals"],
+        Which::Fragments => &["session", "strobe", "close", "at", "as-bits", "json", "salvage", "reals"],
+        Which::Check => &["json", "salvage", "reals"],
         Which::Explain => &["json"],
         Which::Help | Which::Version => &[],
     }
@@ -104,7 +107,7 @@ pub fn parse(args: Vec<OsString>) -> Result<Options, Stop> {
             Some(Arg::Long(name)) => name.to_string(),
         };
         let value = match long.as_str() {
-            "signal" | "session" | "strobe" | "close" | "from" | "to" | "at" => {
+            "signal" | "session" | "strobe" | "close" | "from" | "to" | "at" | "reals" => {
                 let value = parser.value().map_err(|e| usage(e.to_string()))?;
                 value.into_string().map_err(|v| usage(format!("--{long} {v:?} is no text in UTF-8")))?
             }
@@ -138,6 +141,14 @@ impl Given {
     fn time(&self, name: &str) -> Result<Option<u64>, Stop> {
         let parse = |text: &String| times::parse(text).map_err(|e| Stop::Usage(format!("--{name}: {e}")));
         self.value(name).map(parse).transpose()
+    }
+
+    fn wellen_reals(&self) -> Result<bool, Stop> {
+        match self.value("reals").map(String::as_str) {
+            None | Some("flag") => Ok(false),
+            Some("rust") => Ok(true),
+            Some(other) => Err(Stop::Usage(format!("--reals={other}: say rust or flag"))),
+        }
     }
 
     fn which(&self) -> Result<Which, Stop> {
@@ -184,6 +195,7 @@ impl Given {
             as_bits: self.has("as-bits"),
             json: self.has("json"),
             salvage: self.has("salvage"),
+            wellen_reals: self.wellen_reals()?,
             timings: self.has("timings"),
         };
         if help {

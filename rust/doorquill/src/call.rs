@@ -4,7 +4,7 @@
 //! writes inside them only, whatever they hold (demand 1, proved), and keeps no pointer.
 #![allow(unsafe_code)]
 use crate::raw::{self, Answer};
-use crate::Tables;
+use crate::{How, Tables};
 
 /// The memory that a reading is lent.
 pub(crate) struct Rooms<'a> {
@@ -15,13 +15,13 @@ pub(crate) struct Rooms<'a> {
 }
 
 #[rustfmt::skip]
-pub(crate) fn read_sections(t: &Tables, big_endian: bool, input: &[u8], r: Rooms<'_>) -> Answer {
+pub(crate) fn read_sections(t: &Tables, how: How, input: &[u8], r: Rooms<'_>) -> Answer {
     unsafe {
         raw::doorquill_read_sections(
             t.kinds.as_ptr(), t.kinds.len(), t.refs.as_ptr(), t.refs.len(), t.vecs.as_ptr(), t.vecs.len(),
             t.mins.as_ptr(), t.mins.len(), t.maxs.as_ptr(), t.maxs.len(),
             t.states.as_ptr(), t.states.len(), t.vec_refs.as_ptr(), t.vec_refs.len(),
-            big_endian, input.as_ptr(), input.len(),
+            how.big_endian, how.reals_by_flag, input.as_ptr(), input.len(),
             r.events.as_mut_ptr(), r.events.len(), r.values.as_mut_ptr(), r.values.len(),
             r.room.as_mut_ptr(), r.room.len(), r.list.as_mut_ptr(), r.list.len(),
         )

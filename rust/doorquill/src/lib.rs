@@ -84,7 +84,7 @@ mod tables;
 
 pub use bench::Counted;
 pub use event::{Event, Events};
-pub use reading::{read_back, read_changes, read_sections, write_sections, Reading};
+pub use reading::{read_back, read_changes, read_sections, read_sections_as, write_sections, How, Reading};
 pub use refusal::Refusal;
 pub use tables::{Kind, States, Tables, Vector};
 

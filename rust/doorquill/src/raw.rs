@@ -42,12 +42,12 @@ pub struct Vector {
 
 #[rustfmt::skip]
 extern "C" {
-    /// Section reading.
+    /// Section reading; reals are little-endian, or follow the flag.
     pub fn doorquill_read_sections(
         kinds: *const u8, kinds_len: usize, refs: *const u32, refs_len: usize, vecs: *const u32, vecs_len: usize,
         mins: *const u32, mins_len: usize, maxs: *const u32, maxs_len: usize,
         states: *const u8, states_len: usize, vec_refs: *const u32, vec_refs_len: usize,
-        big_endian: bool, input: *const u8, input_len: usize,
+        big_endian: bool, reals_by_flag: bool, input: *const u8, input_len: usize,
         events: *mut u8, events_len: usize, values: *mut u8, values_len: usize,
         room: *mut u8, room_len: usize, list: *mut u32, list_len: usize,
     ) -> Answer;

@@ -16,13 +16,36 @@ pub struct Reading {
     steps: u64,
 }
 
+/// How section bytes are read.
+#[derive(Clone, Copy, Debug, PartialEq, Eq)]
+pub struct How {
+    /// The header's flag: numbers of fixed size have their highest byte first.
+    pub big_endian: bool,
+    /// Reals follow the flag; otherwise they are little-endian whatever it says.
+    pub reals_by_flag: bool,
+}
+
+impl How {
+    /// As wellen reads.
+    pub fn wellen(big_endian: bool) -> How {
+        How { big_endian, reals_by_flag: false }
+    }
+}
+
 /// Reads section bytes: what stands behind the hierarchy of a GHW file, up to its tailer.
 ///
 /// Refused are, with their places in `sections`, 7 to 15 for what the bytes hold; 1 to 5 for too many bytes and for bad
 /// tables; 16 where the values would take more than [`MOST_BUFFER`] bytes.
+///
+/// Reals are little-endian whatever the flag says, as wellen reads them.
 pub fn read_sections(tables: &Tables, big_endian: bool, sections: &[u8]) -> Result<Reading, Refusal> {
+    read_sections_as(tables, How::wellen(big_endian), sections)
+}
+
+/// Reads section bytes as [`read_sections`] does, in a manner of choice.
+pub fn read_sections_as(tables: &Tables, how: How, sections: &[u8]) -> Result<Reading, Refusal> {
     let outputs = Outputs::of_sections(tables, sections.len(), MOST_BUFFER);
-    read(tables, outputs, |rooms| call::read_sections(tables, big_endian, sections, rooms))
+    read(tables, outputs, |rooms| call::read_sections(tables, how, sections, rooms))
 }
 
 /// Reads change records (document 01), through the same gatherer.
@@ -158,7 +181,7 @@ mod tests {
         let sections = [&b"CYC\0\0\0\0\0\0\0\0\0"[..], &steps, &[0, 0x7f], b"ECY\0TAI\0\0\0\0\0\0\0\0\0"].concat();
         let within = |limit| {
             let outputs = Outputs::of_sections(&tables, sections.len(), limit);
-            read(&tables, outputs, |rooms| call::read_sections(&tables, false, &sections, rooms))
+            read(&tables, outputs, |rooms| call::read_sections(&tables, How::wellen(false), &sections, rooms))
         };
         assert_eq!(within(100 * 2048).unwrap().records().1.len(), 100 * 2048);
         // The hundredth value is given at its step's end, before the delta that follows: 12 + 4 * 99 + 3.

@@ -2,7 +2,7 @@
 use crate::call::{self, Rooms};
 use crate::raw::Answer;
 use crate::refusal::{Counts, Meaning, MEANINGS};
-use crate::Tables;
+use crate::{How, Tables};
 
 /// What a smallest input lends; whatever it does not speak of is empty, and rooms are ample.
 struct Lent {
@@ -103,7 +103,7 @@ fn put(l: &Lent) -> Answer {
         (vec![0xa5; l.out], vec![0xa5; 64], vec![0xa5; l.room], vec![0xa5; l.list]);
     let rooms = Rooms { events: &mut out, values: &mut values, room: &mut room, list: &mut list };
     match &l.call[..] {
-        "read_sections" => call::read_sections(&l.tables, false, &l.input, rooms),
+        "read_sections" => call::read_sections(&l.tables, How::wellen(false), &l.input, rooms),
         "read_changes" => call::read_changes(&l.tables, &l.input, rooms),
         "write_sections" => call::write_sections(&l.tables, false, &l.input, &mut out),
         "time_rule" => call::time_rule(&l.events, &l.values, &mut out),

@@ -84,6 +84,11 @@ fn count<T>(list: &[T]) -> u32 {
 }
 
 impl Tables {
+    /// Is a signal a real? Then the manner in which sections are read can matter ([`How`](crate::How)).
+    pub fn has_reals(&self) -> bool {
+        self.kinds.contains(&(Kind::F64 as u8))
+    }
+
     /// Tables without a signal.
     pub fn new() -> Tables {
         Tables::default()

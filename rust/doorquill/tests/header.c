@@ -26,8 +26,8 @@ int main(void)
         printf("another layout\n");
         return 1;
     }
-    held("read_sections", doorquill_read_sections(NO_TABLES, false, NULL, 0, NO_ROOMS), DOORQUILL_INPUT_ENDS, 0);
-    held("read_sections", doorquill_read_sections(NO_TABLES, true, tailer, 12, NO_ROOMS), DOORQUILL_DONE, 12);
+    held("read_sections", doorquill_read_sections(NO_TABLES, false, false, NULL, 0, NO_ROOMS), DOORQUILL_INPUT_ENDS, 0);
+    held("read_sections", doorquill_read_sections(NO_TABLES, true, true, tailer, 12, NO_ROOMS), DOORQUILL_DONE, 12);
     held("read_sections_lent", doorquill_read_sections_lent(NO_SIGNALS, NULL, 0, NULL, 0, false, tailer, 12, NO_ROOMS), DOORQUILL_DONE, 12);
     held("read_changes", doorquill_read_changes(NO_TABLES, NULL, 0, NO_ROOMS), DOORQUILL_DONE, 0);
     held("time_rule", doorquill_time_rule(NULL, 0, NULL, 0, NULL, 0), DOORQUILL_DONE, 0);

@@ -185,3 +185,29 @@ fn any_records_are_iterated_without_a_panic() {
         assert_eq!(refused(reading(&other).fragments(1, 2, 3)), (17, 0));
     }
 }
+
+/// Reals are little-endian as wellen reads them, or follow the flag; where the flag is little there is no difference.
+#[test]
+fn reals_in_both_modes() {
+    let mut tables = Tables::new();
+    tables.signal(Kind::F64, 1);
+    let sections =
+        |bits: [u8; 8]| [&b"CYC\0\0\0\0\0\0\0\0\0\x01"[..], &bits, &[0, 0x7f], b"ECY\0", &TAILER].concat();
+    let real = |how, bits: [u8; 8]| {
+        let reading = read_sections_as(&tables, how, &sections(bits)).unwrap();
+        let value = reading.events().find_map(|event| match event {
+            Event::Real { value, .. } => Some(value.to_bits()),
+            _ => None,
+        });
+        value.expect("a real")
+    };
+    let one = 1f64.to_bits();
+    let (low_first, high_first) = (one.to_le_bytes(), one.to_be_bytes());
+    for big_endian in [false, true] {
+        assert_eq!(real(How::wellen(big_endian), low_first), one);
+        assert_eq!(real(How::wellen(big_endian), high_first), one.swap_bytes());
+    }
+    let by_flag = |big_endian| How { big_endian, reals_by_flag: true };
+    assert_eq!((real(by_flag(true), high_first), real(by_flag(true), low_first)), (one, one.swap_bytes()));
+    assert_eq!((real(by_flag(false), low_first), real(by_flag(false), high_first)), (one, one.swap_bytes()));
+}

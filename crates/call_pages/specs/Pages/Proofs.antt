@@ -12,6 +12,7 @@ use Rattle.tables.specs.Checks.{unless, andThen}
 use Rattle.tables.specs.declared.Check.{Check}
 use Rattle.tables.specs.declared.Check.the-variants.{Passed, Refused}
 use Rattle.checks.specs.Checked.{checksWithoutRoom, without-number}
+use Rattle.values.specs.Value.{ordinary}
 use Rattle.number_writer.specs.Ended as ended
 use Rattle.rules.specs.Scan as scan
 use Rattle.section_scan.specs.Sections.{scanSections}
@@ -150,18 +151,18 @@ module _ (t : Lists) (flag : Bool) (s : List ℕ) (room : ℕ) where
   unfolding readBack
   back-is = ap (λ e. leavesKept room (checked check (filled e))) (back-fills t room flag s)
 
-  back-told : Told (λ i. scan.Ends i (scanSections t flag s))
-      (λ n p. scan.Faults n p (scanSections t flag s)) (givenBack t flag s)
+  back-told : Told (λ i. scan.Ends i (scanSections t (ordinary flag) s))
+      (λ n p. scan.Faults n p (scanSections t (ordinary flag) s)) (givenBack t flag s)
   unfolding givenBack
-  back-told = given-told t (scanSections t flag s) 0
+  back-told = given-told t (scanSections t (ordinary flag) s) 0
 
-  back-low : (n p : ℕ) → scan.Faults n p (scanSections t flag s) ⊎ Full n → 1 ≤ n
-  back-low n p (inl f) = omega (arith, sections-number t flag s n p f .0)
+  back-low : (n p : ℕ) → scan.Faults n p (scanSections t (ordinary flag) s) ⊎ Full n → 1 ≤ n
+  back-low n p (inl f) = omega (arith, sections-number t (ordinary flag) s n p f .0)
   back-low n p (inr e) = omega arith
 
   back-some : (n p : ℕ) → fill room (givenBack t flag s) [] ≡ ended.refused n p → 1 ≤ n
   back-some n p e = back-low n p
-      (subst (λ x. Comes Full room x (scanSections t flag s)) (back-fills t room flag s ∙ e) (gives-as t room flag s))
+      (subst (λ x. Comes Full room x (scanSections t (ordinary flag) s)) (back-fills t room flag s ∙ e) (gives-as t room flag s))
 
   pub back-page : BackPage t flag s room (readBack t flag s room)
   back-page = subst (BackPage t flag s room) (sym back-is)

@@ -12,8 +12,8 @@ use Rattle.slices.specs.Choice.{cond-ind}
 use Rattle.tables.specs.Lists.{Lists, nth, signals}
 use Rattle.values.specs.declared.Read.{Read}
 use Rattle.values.specs.declared.Read.the-variants as read
-use Rattle.values.specs.Value.{Suits, onRead, value}
-use Rattle.values.specs.Value.Laws.{value-next, value-suits}
+use Rattle.values.specs.Value.{Suits, onRead, narrow}
+use Rattle.values.specs.Value.Laws.{narrow-next, narrow-suits}
 use Rattle.changes.specs.declared.Change.{Change}
 use Rattle.changes.specs.declared.Change.the-variants.{Time, Write, StepEnd, End, Bad}
 use Rattle.changes.specs.Changes.{recordLength, written, writeRecord, inOrder, changeRecord, nextChange}
@@ -32,18 +32,18 @@ both false b e = let z : _≡_ {A = ℕ} 0 1 = cc in absurd (omega arith)
 
 module _ (t : Lists) (s : List ℕ) (i : ℕ) where
   module _ (id : ℕ) (l : 1 ≤ id) (h : id ≤ signals t) where
-    byte-found : (r : Read) → r ≡ value (nth (t .kinds) id) s (i + 5) → Found t s i (onRead r Bad (λ v j. Write id v j))
+    byte-found : (r : Read) → r ≡ narrow (nth (t .kinds) id) s (i + 5) → Found t s i (onRead r Bad (λ v j. Write id v j))
     unfolding onRead
     byte-found (read.Value v j) e =
-        let n = value-next (nth (t .kinds) id) s (i + 5) e refl in
-        (omega arith, n .1, l, h, value-suits (nth (t .kinds) id) s (i + 5) e refl)
+        let n = narrow-next (nth (t .kinds) id) s (i + 5) e refl in
+        (omega arith, n .1, l, h, narrow-suits (nth (t .kinds) id) s (i + 5) e refl)
     byte-found (read.Bad n p) e = tt
 
     written-found : (k : ℕ) → Writes s k i → Found t s i (written t s k id i)
     unfolding written
     written-found k w =
         cond-ind (eqb k 2) _ _ (Found t s i)
-        (λ e. cond-ind (leb (nth (t .kinds) id) 4) _ _ (Found t s i) (λ f. byte-found (value (nth (t .kinds) id) s (i + 5)) refl) (λ f. tt))
+        (λ e. cond-ind (leb (nth (t .kinds) id) 4) _ _ (Found t s i) (λ f. byte-found (narrow (nth (t .kinds) id) s (i + 5)) refl) (λ f. tt))
         (λ e. cond-ind (leb 5 (nth (t .kinds) id)) _ _ (Found t s i)
         (λ f.
         let b = w .wide (eqb-false k 2 e) in

@@ -12,7 +12,7 @@ use Rattle.numbers.specs.Fixed.{big}
 use Rattle.tables.specs.Lists.{Lists, lists, nth, signals}
 use Rattle.values.specs.declared.Read.{Read}
 use Rattle.values.specs.declared.Read.the-variants as read
-use Rattle.values.specs.Value.{onRead, value}
+use Rattle.values.specs.Value.{onRead, narrow}
 use Rattle.changes.specs.declared.Change.{Change}
 use Rattle.changes.specs.declared.Change.the-variants.{Time, Write, StepEnd, End, Bad}
 use Rattle.changes.specs.Changes.{recordLength, written, writeRecord, inOrder, changeRecord, nextChange}
@@ -38,7 +38,7 @@ module _ (t : Lists) (s : List ℕ) (id i : ℕ) where
     unfolding written
     byte-unsuited h = rw (← e, lt-leb kind 4 h)
 
-    module _ (h : kind ≤ 4) {r : Read} (p : r ≡ value kind s (i + 5)) where
+    module _ (h : kind ≤ 4) {r : Read} (p : r ≡ narrow kind s (i + 5)) where
       pub byte-written : {v j : ℕ} → r ≡ read.Value v j → Write id v j ≡ written t s 2 id i
       unfolding written onRead
       byte-written d = rw (← e, le-leb kind 4 h, sym p ∙ d)

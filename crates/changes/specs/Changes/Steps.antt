@@ -16,7 +16,7 @@ use Rattle.tables.specs.Lists.{Lists, nth, signals}
 use Rattle.values.specs.declared.Read.{Read}
 use Rattle.values.specs.declared.Read.the-variants as read
 use Rattle.values.specs.Value.{onRead}
-use Rattle.values.specs.Value.Reads.{Reads, byte-value-reads}
+use Rattle.values.specs.Value.Reads.{Reads, narrow-reads}
 use Rattle.rules.specs.Steps.{Stepped}
 use Rattle.rules.specs.Scan.{Scan, done, acts, Ends, Faults}
 use Rattle.rules.specs.Scan.Ordered.{Ordered, ordered-steps, ordered-end, ordered-fault}
@@ -70,7 +70,7 @@ module _ (t : Lists) (s : List ℕ) where
       written-found id a c =
           cond-ind (eqb kind 2) _ _ (Found true i)
           (λ b. cond-ind (leb (nth (t .kinds) id) 4) _ _ (Found true i)
-          (λ k. read-found id _ (byte-value-reads _ _ s (i + 5) (leb-true _ _ k) (omega arith, omega (arith, byte-length kind a b))))
+          (λ k. read-found id _ (narrow-reads _ _ s (i + 5) (omega arith, omega (arith, byte-length kind a b))))
           (λ k. (omega arith, omega arith, λ e. omega arith)))
           (λ b. cond-ind (leb 5 (nth (t .kinds) id)) _ _ (Found true i) (λ k. (refl, omega arith, omega (arith, wide-length kind a b c some))) (λ k. (omega arith, omega arith, λ e. omega arith)))
 

@@ -8,6 +8,7 @@ use lib.ListN.{length}
 use lib.Dec.{leb}
 use Rattle.number_writer.specs.Ended.{refused}
 use Rattle.tables.specs.Lists.{Lists}
+use Rattle.values.specs.Value.{ordinary}
 use Rattle.rules.specs.Scan.{Scan, say}
 use Rattle.rules.specs.Scan as scan
 use Rattle.section_scan.specs.Sections.{scanSections}
@@ -26,7 +27,7 @@ module _ (t : Lists) (room : ℕ) where
 
   pub back-fills : (flag : Bool) (s : List ℕ) → readBack t flag s room ≡ fill room (givenBack t flag s) []
   unfolding readBack givenBack
-  back-fills flag s = giving-fills (scanSections t flag s) [] 0
+  back-fills flag s = giving-fills (scanSections t (ordinary flag) s) [] 0
 
 -- where the scan ends, and with what it is refused
 pub given-told : (t : Lists) (sc : Scan) (n : ℕ)

@@ -11,6 +11,7 @@ use Rattle.tables.specs.Lists.{Lists}
 use Rattle.tables.specs.Checks.{unless, andThen, withinLimit, check1, check2, checks}
 use Rattle.tables.specs.declared.Check.{Check}
 use Rattle.tables.specs.declared.Check.the-variants.{Passed, Refused}
+use Rattle.values.specs.Value.{ordinary}
 use Rattle.rules.specs.Vector.{actsEarly}
 use Rattle.rules.specs.Demand3.{Demand3}
 use Rattle.rules.specs.Scan.{acts}
@@ -75,10 +76,10 @@ nothing-out n p size = record {
 }
 
 demand1-by : (c : Check) → Numbered c → (t : Lists) (flag : Bool) (s : List ℕ) (l : Lent) (flat : ℕ)
-    → LentDemand1 c (length s) l flat (record { left = leftBy c l (readSections t flag s l); flat = replicate flat 0 })
+    → LentDemand1 c (length s) l flat (record { left = leftBy c l (readSections t (ordinary flag) s l); flat = replicate flat 0 })
 unfolding leftBy leaves answer eventBytes valueBytes
 demand1-by Passed h t flag s l flat =
-    let d = sections-1 t flag s l in
+    let d = sections-1 t (ordinary flag) s l in
     record {
       answers = d .answers;
       events = d .events;
@@ -123,17 +124,17 @@ module _ (vs : List Vector) (kinds refs vecs : List ℕ) (flag : Bool) (s : List
 
   module _ (few : flat ≤ 1073741823) (room : 4 * length vs ≤ flat) where
     -- where `flat` is within its limit and has 4 numbers for each record, all is as the core leaves it for the flat table
-    pub lent-reads : x .left ≡ readSections t flag s l
+    pub lent-reads : x .left ≡ readSections t (ordinary flag) s l
     unfolding readSectionsLent readSections checksLent reads checks withinLimit unless
     lent-reads =
         rw (le-leb flat 1073741823 few, vectors-table vs kinds refs vecs, le-leb (4 * length vs) flat room)
         (same-by (check1 (length s) (l .events) (l .values) (l .room) (l .list)) (check2 t) _ l _)
 
     pub lent-1 : Demand1 t (length s) l (x .left)
-    lent-1 = rw lent-reads (sections-1 t flag s l)
+    lent-1 = rw lent-reads (sections-1 t (ordinary flag) s l)
 
-    pub lent-2 : Demand2 t (length s) l (scanSections t flag s) (x .left)
-    lent-2 = rw lent-reads (sections-2 t flag s l)
+    pub lent-2 : Demand2 t (length s) l (scanSections t (ordinary flag) s) (x .left)
+    lent-2 = rw lent-reads (sections-2 t (ordinary flag) s l)
 
-    pub lent-3 : x .left .answer .number ≡ 0 → Demand3 actsEarly (gathers t) (acts (scanSections t flag s))
-    lent-3 h = sections-3 t flag s l (rw lent-reads at h)
+    pub lent-3 : x .left .answer .number ≡ 0 → Demand3 actsEarly (gathers t) (acts (scanSections t (ordinary flag) s))
+    lent-3 h = sections-3 t (ordinary flag) s l (rw lent-reads at h)

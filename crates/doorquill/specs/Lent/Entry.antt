@@ -18,6 +18,7 @@ use Rattle.tables.specs.Lists.{Lists, signals, vectors}
 use Rattle.tables.specs.Checks.{unless, check2, equalLengths}
 use Rattle.tables.specs.declared.Check.{Check}
 use Rattle.tables.specs.declared.Check.the-variants.{Passed, Refused}
+use Rattle.values.specs.Value.{ordinary}
 use Rattle.doorquill.specs.declared.Vector.{Vector}
 use Rattle.answers.specs.Outcome.{Lent}
 use Rattle.entries.specs.Entries.{readSections}
@@ -191,6 +192,6 @@ module _ (vs : List Vector) (kinds refs vecs flat flat₁ : List ℕ) (flag : Bo
   read-same = rw checked-so (go c all-flat)
     where
       go : (d : Check) → (d ≡ Passed → flatTable kinds refs vecs (length vs) flat₁ ≡ t)
-          → readBy d kinds refs vecs (length vs) flat₁ flag s l ≡ record { left = leftBy d l (readSections t flag s l); flat = replicate (length flat) 0 }
+          → readBy d kinds refs vecs (length vs) flat₁ flag s l ≡ record { left = leftBy d l (readSections t (ordinary flag) s l); flat = replicate (length flat) 0 }
       go Passed f = rw (f refl, long)
       go (Refused m p) f = rw long

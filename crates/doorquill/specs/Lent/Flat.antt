@@ -12,6 +12,7 @@ use Rattle.tables.specs.Lists.{Lists, lists}
 use Rattle.tables.specs.Checks.{unless, andThen, withinLimit, check1}
 use Rattle.tables.specs.declared.Check.{Check}
 use Rattle.tables.specs.declared.Check.the-variants.{Passed, Refused}
+use Rattle.values.specs.Value.{ordinary}
 use Rattle.doorquill.specs.declared.Vector.{Vector}
 use Rattle.answers.specs.declared.Answer.{Answer}
 use Rattle.answers.specs.Outcome.{refused, Lent, leaves}
@@ -63,7 +64,7 @@ unfoldable pub refusedLent : (flat : ℕ) → Lent → (number place : ℕ) → 
 refusedLent flat l n p = record { left = leaves l (refused n p); flat = replicate flat 0 }
 
 unfoldable pub readPassed : (kinds refs vecs : List ℕ) (v : ℕ) (flat : List ℕ) → Bool → List ℕ → Lent → LeftLent
-readPassed kinds refs vecs v flat flag s l = record { left = readSections (flatTable kinds refs vecs v flat) flag s l; flat = replicate (length flat) 0 }
+readPassed kinds refs vecs v flat flag s l = record { left = readSections (flatTable kinds refs vecs v flat) (ordinary flag) s l; flat = replicate (length flat) 0 }
 
 -- section reading from `flat`
 unfoldable pub readBy : Check → (kinds refs vecs : List ℕ) (v : ℕ) (flat : List ℕ) → Bool → List ℕ → Lent → LeftLent

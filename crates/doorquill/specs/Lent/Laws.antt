@@ -16,6 +16,8 @@ use Rattle.tables.specs.Checks.{unless, andThen, withinLimit, check1}
 use Rattle.tables.specs.Checks.Laws.{both, unless-passed, then-passed}
 use Rattle.tables.specs.declared.Check.{Check}
 use Rattle.tables.specs.declared.Check.the-variants.{Passed, Refused}
+use Rattle.values.specs.declared.How.{How}
+use Rattle.values.specs.Value.{ordinary}
 use Rattle.answers.specs.declared.Answer.{Answer}
 use Rattle.answers.specs.Outcome.{Left, Lent, refused, leaves}
 use Rattle.entries.specs.Entries.{readSections}
@@ -121,19 +123,19 @@ pub first-is : (s : List ℕ) (n : ℕ) {l : List ℕ} → l ≡ take (n - 0) (d
 unfolding part
 first-is s n e = let h : n - 0 ≡ n = omega arith in e ∙ rw h
 
-module _ {x : Left} (kinds refs vecs : List ℕ) (flag : Bool) (s : List ℕ) (l : Lent) (flat states : List ℕ) (v : ℕ) where
+module _ {x : Left} (kinds refs vecs : List ℕ) (how : How) (s : List ℕ) (l : Lent) (flat states : List ℕ) (v : ℕ) where
   pub rest-read : (mins maxs : List ℕ) {bytes vecRefs : List ℕ} → bytes ≡ part states 0 v → vecRefs ≡ part flat (2 * v) v
-      → x ≡ readSections (lists kinds refs vecs mins maxs bytes vecRefs) flag s l → x ≡ readSections (lists kinds refs vecs mins maxs (part states 0 v) (part flat (2 * v) v)) flag s l
+      → x ≡ readSections (lists kinds refs vecs mins maxs bytes vecRefs) how s l → x ≡ readSections (lists kinds refs vecs mins maxs (part states 0 v) (part flat (2 * v) v)) how s l
   rest-read mins maxs p q h = h ∙ rw (p, q)
 
   pub runs-read : {mins maxs : List ℕ} → mins ≡ part flat 0 v → maxs ≡ part flat v v
-      → x ≡ readSections (lists kinds refs vecs mins maxs (part states 0 v) (part flat (2 * v) v)) flag s l
-      → x ≡ readSections (lists kinds refs vecs (part flat 0 v) (part flat v v) (part states 0 v) (part flat (2 * v) v)) flag s l
+      → x ≡ readSections (lists kinds refs vecs mins maxs (part states 0 v) (part flat (2 * v) v)) how s l
+      → x ≡ readSections (lists kinds refs vecs (part flat 0 v) (part flat v v) (part states 0 v) (part flat (2 * v) v)) how s l
   runs-read p q h = h ∙ rw (p, q)
 
   pub table-read : 4 * v ≤ length flat → states ≡ splice (replicate 16383 0) 0 (lows (part flat (3 * v) v))
-      → x ≡ readSections (lists kinds refs vecs (part flat 0 v) (part flat v v) (part states 0 v) (part flat (2 * v) v)) flag s l
-      → x ≡ readSections (flatTable kinds refs vecs v flat) flag s l
+      → x ≡ readSections (lists kinds refs vecs (part flat 0 v) (part flat v v) (part states 0 v) (part flat (2 * v) v)) how s l
+      → x ≡ readSections (flatTable kinds refs vecs v flat) how s l
   unfolding flatTable
   table-read o e h = h ∙ rw (e, states-front)
     where
@@ -159,7 +161,7 @@ module _ (kinds refs vecs v flat input events values room list : ℕ) {m : Check
 
 module _ {flat' events' values' room' list' : List ℕ} {a : Answer} (l : Lent) where
   pub passed-read : (kinds refs vecs : List ℕ) (v : ℕ) (flat : List ℕ) (flag : Bool) (s : List ℕ) → flat' ≡ replicate (length flat) 0
-      → leftOf a events' values' room' list' ≡ readSections (flatTable kinds refs vecs v flat) flag s l
+      → leftOf a events' values' room' list' ≡ readSections (flatTable kinds refs vecs v flat) (ordinary flag) s l
       → leftLent a flat' events' values' room' list' ≡ readPassed kinds refs vecs v flat flag s l
   unfolding readPassed
   passed-read kinds refs vecs v flat flag s z h = rw (← h, z)

@@ -2,11 +2,11 @@
 -- Assumes nothing.
 use Prim.Native.Nat.{ℕ, _≤_}
 use mathlib.Core.Logic.{_≢_}
-use mathlib.Core.Bool.{Bool}
 use mathlib.Core.List.{List}
 use native.Mathlib.Omega.{arith}
 use lib.ListN.{length}
 use Rattle.tables.specs.Lists.{Lists}
+use Rattle.values.specs.declared.How.{How}
 use Rattle.rules.specs.Steps.{Stepped}
 use Rattle.rules.specs.Scan.{Scan, acts, Ends, Faults}
 use Rattle.section_scan.specs.Sections.{scanSections}
@@ -19,11 +19,11 @@ pub record Scanned (input : ℕ) (sc : Scan) : Type 0 where
   pub number : (n p : ℕ) → Faults n p sc → (7 ≤ n) × (n ≤ 19) × (n ≢ 16)
   pub stepped : (i : ℕ) → Ends i sc → Stepped (acts sc)
 
-pub sections-scanned : (t : Lists) (flag : Bool) (s : List ℕ) → Scanned (length s) (scanSections t flag s)
-sections-scanned t flag s = record {
-  end = sections-end t flag s;
-  number = λ n p f. let h = sections-number t flag s n p f in (h .0, omega arith, λ e. omega arith);
-  stepped = sections-stepped t flag s;
+pub sections-scanned : (t : Lists) (how : How) (s : List ℕ) → Scanned (length s) (scanSections t how s)
+sections-scanned t how s = record {
+  end = sections-end t how s;
+  number = λ n p f. let h = sections-number t how s n p f in (h .0, omega arith, λ e. omega arith);
+  stepped = sections-stepped t how s;
 }
 
 pub changes-scanned : (t : Lists) (s : List ℕ) → Scanned (length s) (scanChanges t s)

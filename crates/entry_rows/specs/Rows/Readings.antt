@@ -8,6 +8,7 @@ use mathlib.Core.List.{List, [], _∷_}
 use native.Mathlib.Nat.{sub-zero}
 use lib.ListN.{length, replicate}
 use Rattle.numbers.specs.Fixed.{bigBytes}
+use Rattle.values.specs.Value.{ordinary}
 use Rattle.answers.specs.Outcome.{Outcome, refused, answer, Lent, leaves}
 use Rattle.entries.specs.Entries.{readSections}
 use Rattle.entry_rows.specs.Rows.{Refuses, Gives, Keeps, left, lent, ample, tables, noSignals, lone, plain, twoState, sections, tailer, changes, rule}
@@ -236,7 +237,7 @@ pub after-tailer :
 unfolding opened
 after-tailer = refl
 
-pub longest-input : (s : List ℕ) → length s ≡ 16777216 → Refuses (readSections noSignals false s ample .answer) 1 0
+pub longest-input : (s : List ℕ) → length s ≡ 16777216 → Refuses (readSections noSignals (ordinary false) s ample .answer) 1 0
 unfolding opened
 longest-input s h = rw h refl
 

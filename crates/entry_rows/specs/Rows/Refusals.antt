@@ -7,6 +7,7 @@ use mathlib.Core.List.{List, [], _∷_}
 use lib.ListN.{length, replicate}
 use Rattle.numbers.specs.Fixed.{bigBytes}
 use Rattle.tables.specs.Lists.{Lists}
+use Rattle.values.specs.Value.{ordinary}
 use Rattle.rules.specs.Scan.{done}
 use Rattle.answers.specs.Outcome.{accepted, refused}
 use Rattle.entries.specs.Entries.{reads, readSections, readChanges, applyTimeRule}
@@ -256,10 +257,10 @@ pub negative-number :
     × Refuses (sections noSignals 20 0x44495200000000000100000000000000ffffff7f ample .answer) 7 20
     × Refuses (sections noSignals 20 0x4449520000000000010000000000000000000080 ample .answer) 11 16
     × Refuses (sections noSignals 28 0x44495200000000000200000000000000ffffff7f0000000000000080 ample .answer) 11 24
-    × Refuses (readSections noSignals true (bigBytes 12 0x44495200000000007fffffff) ample .answer) 7 12
-    × Refuses (readSections noSignals true (bigBytes 12 0x444952000000000080000000) ample .answer) 11 8
-    × Refuses (readSections noSignals true (bigBytes 20 0x444952000000000000000001000000007fffffff) ample .answer) 7 20
-    × Refuses (readSections noSignals true (bigBytes 20 0x4449520000000000000000010000000080000000) ample .answer) 11 16
+    × Refuses (readSections noSignals (ordinary true) (bigBytes 12 0x44495200000000007fffffff) ample .answer) 7 12
+    × Refuses (readSections noSignals (ordinary true) (bigBytes 12 0x444952000000000080000000) ample .answer) 11 8
+    × Refuses (readSections noSignals (ordinary true) (bigBytes 20 0x444952000000000000000001000000007fffffff) ample .answer) 7 20
+    × Refuses (readSections noSignals (ordinary true) (bigBytes 20 0x4449520000000000000000010000000080000000) ample .answer) 11 16
 unfolding opened
 negative-number = (refl, refl, refl, refl, refl, refl, refl, refl, refl)
 

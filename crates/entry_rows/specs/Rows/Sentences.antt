@@ -5,6 +5,7 @@ use mathlib.Core.Bool.{true}
 use mathlib.Core.List.{[], _∷_, _++_}
 use lib.ListN.{replicate}
 use Rattle.numbers.specs.Fixed.{bigBytes}
+use Rattle.values.specs.Value.{ordinary}
 use Rattle.entries.specs.Entries.{readSections}
 use Rattle.entry_rows.specs.Rows.{Gives, Fully, Keeps, ample, tables, noSignals, lone, plain, twoState, nineState, sections, changes, rule}
 use Rattle.entries.specs.Opened.{opened}
@@ -72,9 +73,9 @@ nine-states = refl
 -- "Integers of fixed size follow the flag."; "kind 6 eight bytes, always little-endian, the flag aside"
 pub flag :
     Fully (sections (plain (5 ∷ 6 ∷ 4 ∷ []) (1 ∷ 2 ∷ 3 ∷ [])) 42 0x534e50000000000002010000000000007e0102030405060708ff45534e00544149000000000000000000 ample) (0, 0, 42, 48, 9, 1) (bigBytes 48 0x010000000000000102020000000100000000000000080400000002080706050403020102000000030000000800000001) (bigBytes 9 0xfffffffffffffffeff)
-    × Fully (readSections (plain (5 ∷ 6 ∷ 4 ∷ []) (1 ∷ 2 ∷ 3 ∷ [])) true (bigBytes 42 0x534e50000000000000000000000001027e0102030405060708ff45534e00544149000000000000000000) ample) (0, 0, 42, 48, 9, 1) (bigBytes 48 0x010000000000000102020000000100000000000000080400000002080706050403020102000000030000000800000001) (bigBytes 9 0xfffffffffffffffeff)
+    × Fully (readSections (plain (5 ∷ 6 ∷ 4 ∷ []) (1 ∷ 2 ∷ 3 ∷ [])) (ordinary true) (bigBytes 42 0x534e50000000000000000000000001027e0102030405060708ff45534e00544149000000000000000000) ample) (0, 0, 42, 48, 9, 1) (bigBytes 48 0x010000000000000102020000000100000000000000080400000002080706050403020102000000030000000800000001) (bigBytes 9 0xfffffffffffffffeff)
     × Fully (sections noSignals 30 0x435943000201000000000000007f45435900544149000000000000000000 ample) (0, 0, 30, 9, 0, 1) (bigBytes 9 0x010000000000000102) []
-    × Fully (readSections noSignals true (bigBytes 30 0x435943000000000000000102007f45435900544149000000000000000000) ample) (0, 0, 30, 9, 0, 1) (bigBytes 9 0x010000000000000102) []
+    × Fully (readSections noSignals (ordinary true) (bigBytes 30 0x435943000000000000000102007f45435900544149000000000000000000) ample) (0, 0, 30, 9, 0, 1) (bigBytes 9 0x010000000000000102) []
 unfolding opened
 flag = (refl, refl, refl, refl)
 
@@ -90,7 +91,7 @@ integers = (refl, refl, refl, refl)
 -- "Directory: an 8-byte head (four unchecked bytes, then a signed 32-bit count), count entries of a 4-byte id and a signed 32-bit position, EOD."; "contents are dropped"
 pub directories :
     Fully (sections noSignals 36 0x444952006162636401000000ffffffff05000000454f4400544149000000000000000000 ample) (0, 0, 36, 0, 0, 0) [] []
-    × Fully (readSections noSignals true (bigBytes 36 0x444952006162636400000001ffffffff00000005454f4400544149000000000000000000) ample) (0, 0, 36, 0, 0, 0) [] []
+    × Fully (readSections noSignals (ordinary true) (bigBytes 36 0x444952006162636400000001ffffffff00000005454f4400544149000000000000000000) ample) (0, 0, 36, 0, 0, 0) [] []
     × Fully (sections noSignals 44 0x44495200000000000200000000000000000000000000000000000000454f4400544149000000000000000000 ample) (0, 0, 44, 0, 0, 0) [] []
 unfolding opened
 directories = (refl, refl, refl)

@@ -10,7 +10,7 @@ use mir.Val.{ofZ}
 use mir.Syntax.{w64}
 use Rattle.numbers.specs.Fixed.{bigBytes}
 use Rattle.values.specs.declared.Read.the-variants.{Value, Bad}
-use Rattle.values.specs.Value.{unsigned, signed}
+use Rattle.values.specs.Value.{ordinary, unsigned, signed}
 use Rattle.rules.specs.Gather.{time, write, stepEnd}
 use Rattle.rules.specs.Scan.{say, done, fault}
 use Rattle.section_scan.specs.Sections.{scanSections}
@@ -25,7 +25,7 @@ abbrev input : List ℕ
 input = bigBytes 60 0x534e50000000000000000000000000000301002a45534e00435943000a00000000000000030100050104007f45435900544149000000000000000000
 
 abbrev worked : Lent → Left
-worked l = readSections small false input l
+worked l = readSections small (ordinary false) input l
 
 -- time 0, nine 1, two 2, two 3; time 10, two 2; time 15, nine 1
 abbrev events : List ℕ
@@ -64,7 +64,7 @@ worked-left-short = refl
 
 -- what it says, each act with the place of the next unread byte
 pub worked-scan :
-    scanSections small false input
+    scanSections small (ordinary false) input
     ≡ say (time 0) 16 (say (write 1 1 16) 17 (say (write 2 1 17) 18 (say (write 3 0 18) 19 (say (write 4 42 19) 20 (say stepEnd 20
     (say (time 10) 36 (say (write 3 1 37) 38 (say stepEnd 39
     (say (time 15) 40 (say (write 1 3 41) 42 (say stepEnd 43 (done 60))))))))))))

@@ -9,6 +9,7 @@ use borrow.Author.Tests.{lt-leb, le-leb, eq-eqb, ne-eqb}
 use lib.ListN.{length, take, drop, length-drop}
 use lib.Seq.{length-take-le, take-all}
 use Rattle.tables.specs.Lists.{Lists}
+use Rattle.values.specs.Value.{ordinary}
 use Rattle.answers.specs.declared.Answer.{Answer}
 use Rattle.entries.specs.Entries.{readSections}
 use Rattle.left_buffers.specs.Left.{leftOf, lentOf}
@@ -42,11 +43,11 @@ refuse-alone a = adds-alone a
 -- ---- section reading
 
 module _ (t : Lists) (flag : Bool) (s : List ℕ) {room room' : List ℕ} {r : ℕ} where
-  pub sections-told : (e v w l : List ℕ) {a : Answer} {e' v' w' l' : List ℕ} → leftOf a e' v' w' l' ≡ readSections t flag s (lentOf e v w l) → lentOf e v w l ≡ lends → Holds room (told a e' v') room' r
+  pub sections-told : (e v w l : List ℕ) {a : Answer} {e' v' w' l' : List ℕ} → leftOf a e' v' w' l' ≡ readSections t (ordinary flag) s (lentOf e v w l) → lentOf e v w l ≡ lends → Holds room (told a e' v') room' r
       → Holds room (sectionLines t flag s) room' r
   unfolding sectionLines
   sections-told e v w l {a} {e'} {v'} {w'} {l'} p q h =
-      let z : leftOf a e' v' w' l' ≡ readSections t flag s lends = p ∙ ap (readSections t flag s) q in rw (sym z) h
+      let z : leftOf a e' v' w' l' ≡ readSections t (ordinary flag) s lends = p ∙ ap (readSections t (ordinary flag) s) q in rw (sym z) h
 
 -- ---- the tables
 

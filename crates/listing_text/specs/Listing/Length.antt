@@ -17,6 +17,7 @@ use Rattle.numbers.specs.Fixed.Laws.{Bytes, big-bigBytes, length-bigBytes, bigB
 use Rattle.tables.specs.Lists.{Lists}
 use Rattle.states.specs.declared.States.{States}
 use Rattle.states.specs.declared.States.the-variants.{Two, Nine}
+use Rattle.values.specs.Value.{ordinary}
 use Rattle.records.specs.declared.Record.{Record}
 use Rattle.records.specs.declared.Record.the-variants.{Time, Value, Real}
 use Rattle.event_streams.specs.declared.Next.{Next}
@@ -219,16 +220,16 @@ unfolding sectionLines told
 length-sectionLines t flag s =
     cond-ind (eqb (x .answer .number) 0) _ _ (λ (l : List ℕ). length l ≤ 65536)
     (λ e. let z : x .answer .number ≡ 0 = eqb-true _ 0 e in
-    let d = sections-1 t flag s lends in
-    let f = sections-2 t flag s lends in
-    let events : take (x .answer .events) (x .events) ≡ rendered 0 (eventsFrom t (scanSections t flag s)) = f .events z in
-    let values : take (x .answer .values) (x .values) ≡ valuesOf (eventsFrom t (scanSections t flag s)) = f .values z in
+    let d = sections-1 t (ordinary flag) s lends in
+    let f = sections-2 t (ordinary flag) s lends in
+    let events : take (x .answer .events) (x .events) ≡ rendered 0 (eventsFrom t (scanSections t (ordinary flag) s)) = f .events z in
+    let values : take (x .answer .values) (x .values) ≡ valuesOf (eventsFrom t (scanSections t (ordinary flag) s)) = f .values z in
     rw (events, length-append)
-    (omega (arith, length-eventLines (eventsFrom t (scanSections t flag s)) (x .values), ap length events, ap length values, length-take (x .answer .events) (x .events), length-take (x .answer .values) (x .values), d .events .within, d .values .within, length-pairLine doneWord (x .answer .read) (x .answer .steps))))
+    (omega (arith, length-eventLines (eventsFrom t (scanSections t (ordinary flag) s)) (x .values), ap length events, ap length values, length-take (x .answer .events) (x .events), length-take (x .answer .values) (x .values), d .events .within, d .values .within, length-pairLine doneWord (x .answer .read) (x .answer .steps))))
     (λ e. omega (arith, length-pairLine refusedWord (x .answer .number) (x .answer .place)))
   where
     x : Left
-    x = readSections t flag s lends
+    x = readSections t (ordinary flag) s lends
 
 length-after : (s : List ℕ) (o : Opening) → length (afterPreamble s o) ≤ 65536
 unfolding afterPreamble

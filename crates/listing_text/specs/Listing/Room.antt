@@ -21,6 +21,7 @@ use Rattle.tables.specs.Good.Laws.{sized, ranged, named}
 use Rattle.tables.specs.Checks.{unless, lowest, andThen, check1, check2, check3, check4, check5, check6, checks}
 use Rattle.tables.specs.declared.Check.{Check}
 use Rattle.tables.specs.declared.Check.the-variants as checking
+use Rattle.values.specs.Value.{ordinary}
 use Rattle.section_scan.specs.Sections.{scanSections}
 use Rattle.entries.specs.Entries.{readSections}
 use Rattle.entries.specs.Entries.Reads.{Why}
@@ -90,13 +91,13 @@ module _ (t : Lists) (few : Few t) where
       (λ _. then-early (check5 t) _ (lowest-early 5 _ _ 1 (omega arith)) (λ e₅. six-passes (sized t e₂) (ranged t e₃) e₅)))))
 
   -- so section reading refuses with 6 nowhere
-  pub reading-six : (flag : Bool) (s : List ℕ) → readSections t flag s lends .answer .number ≢ 6
+  pub reading-six : (flag : Bool) (s : List ℕ) → readSections t (ordinary flag) s lends .answer .number ≢ 6
   unfolding Early
-  reading-six flag s e = go (sections-2 t flag s lends .refuses (λ z. omega (arith, e, z)))
+  reading-six flag s e = go (sections-2 t (ordinary flag) s lends .refuses (λ z. omega (arith, e, z)))
     where
-      go : Why t (length s) lends (scanSections t flag s) (readSections t flag s lends .answer .number) (readSections t flag s lends .answer .place) → ⊥
-      go (inl c) = let h : readSections t flag s lends .answer .number ≤ 5 = subst Early c (checks-early (length s) 16384 8192) in omega (arith, e)
-      go (inr (c, inl (f, o))) = let h = sections-scanned t flag s .number _ _ f in omega (arith, e, h .0)
+      go : Why t (length s) lends (scanSections t (ordinary flag) s) (readSections t (ordinary flag) s lends .answer .number) (readSections t (ordinary flag) s lends .answer .place) → ⊥
+      go (inl c) = let h : readSections t (ordinary flag) s lends .answer .number ≤ 5 = subst Early c (checks-early (length s) 16384 8192) in omega (arith, e)
+      go (inr (c, inl (f, o))) = let h = sections-scanned t (ordinary flag) s .number _ _ f in omega (arith, e, h .0)
       go (inr (c, inr (x, o))) = omega (arith, e, x)
 
 -- ---- the preamble
@@ -130,5 +131,5 @@ module _ (s : List ℕ) (t′ : Lists) (flag : Bool) (at : ℕ) where
   few-tables e = few-opening (length s) _ 0 e (record { signals = omega arith; vectors = omega arith })
 
   -- the listing never prints 6 for its sections
-  pub never-six : Opens (preamble s) → readSections t′ flag (drop at s) lends .answer .number ≢ 6
+  pub never-six : Opens (preamble s) → readSections t′ (ordinary flag) (drop at s) lends .answer .number ≢ 6
   never-six e = reading-six t′ (few-tables e) flag (drop at s)

@@ -15,6 +15,7 @@ use Rattle.numbers.specs.Fixed.Laws.{big-bigBytes, length-bigBytes, bigBytes-lo
 use Rattle.tables.specs.Lists.{Lists}
 use Rattle.states.specs.declared.States.{States}
 use Rattle.states.specs.declared.States.the-variants.{Two, Nine}
+use Rattle.values.specs.Value.{ordinary}
 use Rattle.records.specs.declared.Record.{Record}
 use Rattle.records.specs.declared.Record.the-variants.{Time, Value, Real}
 use Rattle.event_streams.specs.declared.Next.the-variants as next
@@ -161,15 +162,15 @@ eventLines-are es values vrest v few = lines-are (rendered 0 es) values vrest fe
 
 module _ (t : Lists) (flag : Bool) (s : List ℕ) where
   abbrev pub leaves : Left
-  leaves = readSections t flag s lends
+  leaves = readSections t (ordinary flag) s lends
 
   -- "It prints section reading's events"
-  pub accepted-lines : leaves .answer .number ≡ 0 → sectionLines t flag s ≡ linesOf (eventsFrom t (scanSections t flag s)) ++ pairLine doneWord (leaves .answer .read) (leaves .answer .steps)
+  pub accepted-lines : leaves .answer .number ≡ 0 → sectionLines t flag s ≡ linesOf (eventsFrom t (scanSections t (ordinary flag) s)) ++ pairLine doneWord (leaves .answer .read) (leaves .answer .steps)
   unfolding sectionLines told
   accepted-lines z =
-      let d = sections-1 t flag s lends in
-      let f = sections-2 t flag s lends in
-      let values : leaves .values ≡ valuesOf (eventsFrom t (scanSections t flag s)) ++ drop (leaves .answer .values) (leaves .values) =
+      let d = sections-1 t (ordinary flag) s lends in
+      let f = sections-2 t (ordinary flag) s lends in
+      let values : leaves .values ≡ valuesOf (eventsFrom t (scanSections t (ordinary flag) s)) ++ drop (leaves .answer .values) (leaves .values) =
       sym (rw (f .values z) at (take-append-drop (leaves .answer .values) (leaves .values))) in
-      let lines = eventLines-are (eventsFrom t (scanSections t flag s)) (leaves .values) (drop (leaves .answer .values) (leaves .values)) values (omega (arith, d .values .long)) in
+      let lines = eventLines-are (eventsFrom t (scanSections t (ordinary flag) s)) (leaves .values) (drop (leaves .answer .values) (leaves .values)) values (omega (arith, d .values .long)) in
       rw (eq-eqb (leaves .answer .number) 0 z, f .events z, lines)

@@ -43,8 +43,18 @@ module _ (s : List ℕ) (at : ℕ) (h : at + 8 ≤ length s) where
   pub get-u64-is : {a b : ℕ} → a ≡ big (part s at 4) → b ≡ big (part s (at + 4) 4) → a * 4294967296 + b ≡ big (part s at 8)
   get-u64-is e f = rw (e, f) (sym (rw last-four at (big-append (part s at 4) (part s (at + 4) 4))) ∙ ap big (part-join s at 4 4))
 
-  pub little-u64-is : {a b : ℕ} → a ≡ little (part s at 4) → b ≡ little (part s (at + 4) 4) → a + b * 4294967296 ≡ little (part s at 8)
-  little-u64-is e f = omega (arith, rw first-four at (little-append (part s at 4) (part s (at + 4) 4)), ap little (part-join s at 4 4))
+  -- two halves by the flag, the first the higher or the lower
+  module _ {flag : Bool} {a b : ℕ} (e : a ≡ fixed flag (part s at 4)) (f : b ≡ fixed flag (part s (at + 4) 4)) where
+    pub halves-big : flag ≡ true → a * 4294967296 + b ≡ fixed flag (part s at 8)
+    unfolding fixed
+    halves-big t = rw t (get-u64-is (rw t at e) (rw t at f))
+
+    pub halves-little : flag ≡ false → b * 4294967296 + a ≡ fixed flag (part s at 8)
+    unfolding fixed
+    halves-little t =
+        let g : a ≡ little (part s at 4) = rw t at e in
+        let h : b ≡ little (part s (at + 4) 4) = rw t at f in
+        rw t (omega (arith, g, h, rw first-four at (little-append (part s at 4) (part s (at + 4) 4)), ap little (part-join s at 4 4)))
 
 -- ---- the flag and the sign
 
@@ -100,4 +110,4 @@ put-u64-is d d′ d″ at v h e f =
 
 pub ruleset house-laws = (big-four, get-u32-is, get-u64-is, second-inside, third-inside, fourth-inside, put-u32-is, put-u64-is)
 
-pub ruleset fixed-laws = (little-u32-is, little-u64-is, fixed-big, fixed-little, positive-number, positive-negative)
+pub ruleset fixed-laws = (little-u32-is, halves-big, halves-little, fixed-big, fixed-little, positive-number, positive-negative)

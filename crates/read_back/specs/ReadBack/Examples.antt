@@ -13,7 +13,7 @@ use Rattle.numbers.specs.Marks.{same, sectionOf, snp, esn, cyc, ecy, dir, eod, 
 use Rattle.number_writer.specs.Ended.{Ended, wrote, refused}
 use Rattle.states.specs.Letters.{ieee1164, crateOrder, placeOf, mapped, unmapped}
 use Rattle.tables.specs.Lists.{Lists, lists, nth, signals}
-use Rattle.values.specs.Value.{onRead, number, unsigned, signed, byteUpTo, real, value}
+use Rattle.values.specs.Value.{onRead, number, unsigned, signed, byteUpTo, real, narrow, value}
 use Rattle.rules.specs.Scan.{and-then}
 use Rattle.section_scan.specs.Sections.{field, endMark, eachValue, nextId, oneChange, changeList, nextTime, snapshot, oneStep, steps, cycle, entries, directory, oneSection, sections, scanSections}
 use Rattle.read_back.specs.ReadBack.{byteOf, writeOf, recordOf, times, giving, readBack}
@@ -68,7 +68,7 @@ pub examples :
 unfolding
     readBack giving recordOf times writeOf byteOf unmapped
     scanSections sections oneSection directory entries cycle steps oneStep nextTime changeList oneChange nextId snapshot eachValue endMark field and-then
-    onRead number unsigned signed byteUpTo real value nth signals mapped ieee1164 crateOrder placeOf
+    onRead number unsigned signed byteUpTo real narrow value nth signals mapped ieee1164 crateOrder placeOf
     lebOf goesOn leb.value signedBits signedValue signedTenth unsignedTenth
     part big little fixed negative bigBytes same sectionOf
 examples = (refl, refl, refl, refl, refl, refl, refl, refl, refl)

@@ -11,9 +11,10 @@ use Rattle.number_writer.specs.Ended.{refused}
 use Rattle.tables.specs.Lists.{Lists}
 use Rattle.rules.specs.Gather.{time, write, stepEnd}
 use Rattle.rules.specs.Scan.{Scan}
+use Rattle.values.specs.Value.{ordinary}
 use Rattle.section_scan.specs.Sections.{withKinds}
 use Rattle.section_heads.specs.Heads.{standing}
-use Rattle.section_heads.specs.declared.How.{How}
+use Rattle.values.specs.declared.How.{How}
 use Rattle.section_heads.specs.declared.Phase.the-variants.{Mark}
 use Rattle.section_heads.specs.declared.Stand.{Stand}
 use Rattle.section_heads.specs.declared.Said.{Said}
@@ -70,5 +71,5 @@ module _ (t : Lists) (how : How) (s : List ℕ) (room : ℕ) where
 pub back-kinds : (t : Lists) (flag : Bool) (s : List ℕ) (room : ℕ) → readBack (withKinds (t .kinds)) flag s room ≡ readBack t flag s room
 unfolding readBack toRead
 back-kinds t flag s room =
-    let how : How = record { «big_endian» = flag } in
+    let how : How = ordinary flag in
     same t how s room (suc (toRead s (standing Mark 0 0) 0)) (standing Mark 0 0) 0 _ _ (omega arith) (left-all t how s) (left-all (withKinds (t .kinds)) how s) [] 0

@@ -14,9 +14,10 @@ use Rattle.filling.specs.Filling.{Filling, puts-none, filling-start, filling-us
 use Rattle.filling.specs.Filling.Steps.{Step, Takes, filling-step}
 use Rattle.tables.specs.Lists.{Lists}
 use Rattle.rules.specs.Scan.{Scan}
-use Rattle.section_scan.specs.Sections.{withKinds}
+use Rattle.values.specs.Value.{ordinary}
+use Rattle.section_scan.specs.Sections.{withKinds, scanSections}
 use Rattle.section_heads.specs.Heads.{standing}
-use Rattle.section_heads.specs.declared.How.{How}
+use Rattle.values.specs.declared.How.{How}
 use Rattle.section_heads.specs.declared.Phase.the-variants.{Mark}
 use Rattle.section_heads.specs.declared.Stand.{Stand}
 use Rattle.section_heads.specs.declared.Said.{Said}
@@ -109,7 +110,7 @@ module _ (kinds : List ℕ) (how : How) (s out₀ : List ℕ) where
   t = withKinds kinds
 
   abbrev whole : Ended
-  whole = readBack t (how .«big_endian») s (length out₀)
+  whole = giving t (length out₀) (scanSections t how s) [] 0
 
   -- what is left to say, from a place and after so many steps
   pub record Rest (x : Stand × ℕ) (i : ℕ) (held : List ℕ) : Type 0 where
@@ -161,7 +162,6 @@ module _ (kinds : List ℕ) (how : How) (s out₀ : List ℕ) where
 
 pub on-start : (kinds : List ℕ) (how : How) (s out : List ℕ) (x : Stand) → x ≡ standing Mark 0 0
     → On kinds how s out (record { mode = x; read = 0; count = 0; steps = 0 }) out
-unfolding readBack
 on-start kinds how s out x e =
     let r : Rest kinds how s out (x, 0) 0 [] =
     rw e (record { rest = _; here = left-all (withKinds kinds) how s; left = refl; few = omega arith }) in
@@ -194,13 +194,11 @@ module _ {kinds : List ℕ} {how : How} {s out₀ : List ℕ} {p : Progress} {ou
     stopped : {a : Written} → r ≡ Stops a → Fills (whole kinds how s out₀) out₀ out' a
     stopped e = subst (Comes kinds how s out₀ p out') e came
 
-abbrev by-flag : Bool → How
-by-flag flag = record { «big_endian» = flag }
-
 pub on-over : {kinds : List ℕ} {flag : Bool} {s out₀ : List ℕ} {p : Progress} {out : List ℕ}
-    → On kinds (by-flag flag) s out₀ p out → {out' : List ℕ} {r : Turn}
-    → Does out p (stepAt kinds (by-flag flag) s p) out' r
+    → On kinds (ordinary flag) s out₀ p out → {out' : List ℕ} {r : Turn}
+    → Does out p (stepAt kinds (ordinary flag) s p) out' r
     → {a : Written} → r ≡ Stops a → Fills (readBack (withKinds kinds) flag s (length out₀)) out₀ out' a
+unfolding readBack
 on-over o d e = stopped o d e
 
 pub ruleset loop-laws = (on-start, on-ready, on-more, on-less, on-over)

@@ -35,7 +35,7 @@ same-length-5 : tie.Need-same-length-5
 same-length-5 c = search (step-laws, needs)
 
 returns-2 : tie.Need-returns-2
-returns-2 c = step-full (c .before .before .before .before .before .before .before .before .before .before .before .before .pre) (c .before .before .before .before .time-change .ensures) (search needs)
+returns-2 c = step-full (c .before .before .before .before .before .before .before .before .before .before .before .before .before .pre) (c .before .before .before .before .time-change .ensures) (search needs)
 
 pub read-step-spec : {M : Type 1} → statement M
 read-step-spec =

@@ -14,9 +14,10 @@ use Rattle.slices.specs.Choice.{cond-ind, le-or-lt}
 use Rattle.numbers.specs.Fixed.{bigBytes}
 use Rattle.tables.specs.Lists.{Lists, nth}
 use Rattle.checks.specs.Checked.{checksWithoutRoom, without-number}
+use Rattle.values.specs.declared.How.{How}
 use Rattle.values.specs.declared.Read.{Read}
 use Rattle.values.specs.declared.Read.the-variants.{Value}
-use Rattle.values.specs.Value.{value, real}
+use Rattle.values.specs.Value.{ordinary, value, real}
 use Rattle.values.specs.Value.Laws.{value-next, value-real}
 use Rattle.rules.specs.Vector.Laws.{by-test}
 use Rattle.rules.specs.Gather.{Act, time, write, stepEnd}
@@ -36,9 +37,9 @@ use Rattle.room_bounds.specs.Costs.Sections.{Pays, sections-covered}
 use Rattle.room_bounds.specs.Calls.{not-full}
 
 -- a real has eight bytes
-real-long : (s : List ℕ) (i v j : ℕ) → real s i ≡ Value v j → i + 8 ≤ j
+real-long : (how : How) (s : List ℕ) (i v j : ℕ) → real how s i ≡ Value v j → i + 8 ≤ j
 unfolding real
-real-long s i v j = cond-ind (leb (i + 8) (length s)) _ _ (λ (r : Read). r ≡ Value v j → i + 8 ≤ j)
+real-long how s i v j = cond-ind (leb (i + 8) (length s)) _ _ (λ (r : Read). r ≡ Value v j → i + 8 ≤ j)
     (λ a e. let f : i + 8 ≡ j = cc in omega arith) (λ a e. let z : _≡_ {A = ℕ} 0 1 = cc in absurd (omega arith))
 
 module _ (t : Lists) (s : List ℕ) where
@@ -65,20 +66,21 @@ module _ (t : Lists) (s : List ℕ) where
   pays-13 = record {
     spare = 12;
     more = λ i j h. omega arith;
-    ofWrite = λ id q i v j e. omega (arith, value-next (nth (t .kinds) id) s i refl e .0, write-long id v q .1);
+    ofWrite = λ how id q i v j e. omega (arith, value-next how (nth (t .kinds) id) s i refl e .0, write-long id v q .1);
     ofHead = λ u i j h. omega (arith, time-long u, end-long);
     ofEnd = λ i j h. omega (arith, end-long);
     ofTime = λ u i j h. omega (arith, time-long u);
   }
 
   module _ (none : hasNumber (t .kinds) ≡ false) where
-    write-pays : (id q i v j : ℕ) → value (nth (t .kinds) id) s i ≡ Value v j → 6 * i + long (write id v q) ≤ 6 * j
-    write-pays id q i v j e =
+    write-pays : (how : How) (id q i v j : ℕ) → value how (nth (t .kinds) id) s i ≡ Value v j
+        → 6 * i + long (write id v q) ≤ 6 * j
+    write-pays how id q i v j e =
         ⊎-elim (λ (l : nth (t .kinds) id ≤ 4). omega
-        (arith, value-next (nth (t .kinds) id) s i refl e .0, write-long id v q .0 l))
+        (arith, value-next how (nth (t .kinds) id) s i refl e .0, write-long id v q .0 l))
         (λ (l : 4 < nth (t .kinds) id).
-        let r = value-real (nth (t .kinds) id) s i l (λ k. true≢false (sym (has-number t id k) ∙ none)) refl in
-        omega (arith, real-long s i v j (r ∙ e), write-long id v q .1)) (le-or-lt (nth (t .kinds) id) 4)
+        let r = value-real how (nth (t .kinds) id) s i l (λ k. true≢false (sym (has-number t id k) ∙ none)) refl in
+        omega (arith, real-long how s i v j (r ∙ e), write-long id v q .1)) (le-or-lt (nth (t .kinds) id) 4)
 
     pays-6 : Pays t s long (λ p. 6 * p)
     pays-6 = record {
@@ -102,19 +104,19 @@ module _ (t : Lists) (s : List ℕ) where
     unfolding givenBack
     back-long =
         by-test (hasNumber (t .kinds))
-        (λ h. rw (h, given-long (scanSections t flag s) 0)
+        (λ h. rw (h, given-long (scanSections t (ordinary flag) s) 0)
         (omega (
           arith,
           covers-all long (λ p. 13 * p) (length s)
-              (λ i j l. omega arith) (scanSections t flag s) 0 (omega arith)
-              (sections-covered t s long (λ p. 13 * p) pays-13 flag),
+              (λ i j l. omega arith) (scanSections t (ordinary flag) s) 0 (omega arith)
+              (sections-covered t s long (λ p. 13 * p) pays-13 (ordinary flag)),
         )))
-        (λ h. rw (h, given-long (scanSections t flag s) 0)
+        (λ h. rw (h, given-long (scanSections t (ordinary flag) s) 0)
         (omega (
           arith,
           covers-all long (λ p. 6 * p) (length s)
-              (λ i j l. omega arith) (scanSections t flag s) 0 (omega arith)
-              (sections-covered t s long (λ p. 6 * p) (pays-6 h) flag),
+              (λ i j l. omega arith) (scanSections t (ordinary flag) s) 0 (omega arith)
+              (sections-covered t s long (λ p. 6 * p) (pays-6 h) (ordinary flag)),
         )))
 
     -- 13 bytes for each byte of sections, 6 where no signal is a number
@@ -123,4 +125,4 @@ module _ (t : Lists) (s : List ℕ) where
         not-full (checksWithoutRoom t (length s) room) _ _ room (givenBack t flag s) (readBack t flag s room)
         (back-page t flag s room)
         (λ p e. omega (arith, without-number t (length s) room 16 p e .1))
-        (λ p f. omega (arith, sections-number t flag s 16 p f .1)) (λ k. omega (arith, back-long))
+        (λ p f. omega (arith, sections-number t (ordinary flag) s 16 p f .1)) (λ k. omega (arith, back-long))

@@ -15,8 +15,8 @@ use Rattle.tables.specs.Lists.{Lists, nth, signals}
 use Rattle.tables.specs.Checks.Laws.{both}
 use Rattle.values.specs.declared.Read.{Read}
 use Rattle.values.specs.declared.Read.the-variants as read
-use Rattle.values.specs.Value.{onRead, value}
-use Rattle.values.specs.Value.Laws.{Ahead, value-ahead}
+use Rattle.values.specs.Value.{onRead, narrow}
+use Rattle.values.specs.Value.Laws.{Ahead, narrow-ahead}
 use Rattle.rules.specs.Gather.{Act, time, write, stepEnd}
 use Rattle.rules.specs.Scan.{Scan, done}
 use Rattle.changes.specs.declared.Change.{Change}
@@ -71,8 +71,8 @@ module _ (t : Lists) (s : List ℕ) where
       written-long id n a c inside =
           cond-ind (eqb kind 2) _ _ (Long inside i)
           (λ b. cond-ind (leb (nth (t .kinds) id) 4) _ _ (Long inside i)
-          (λ k. read-long id n (leb-true _ _ k) inside (value (nth (t .kinds) id) s (i + 5))
-          (value-ahead (nth (t .kinds) id) s (i + 5))) (λ k. tt))
+          (λ k. read-long id n (leb-true _ _ k) inside (narrow (nth (t .kinds) id) s (i + 5))
+          (narrow-ahead (nth (t .kinds) id) s (i + 5))) (λ k. tt))
           (λ b. cond-ind (leb 5 (nth (t .kinds) id)) _ _ (Long inside i)
           (λ k. (omega arith, omega (arith, wide-length kind a b c some), (λ w. omega arith), n)) (λ k. tt))
 

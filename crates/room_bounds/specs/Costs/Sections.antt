@@ -15,6 +15,7 @@ use Rattle.numbers.specs.Marks.{same, esn, ecy, eod, sectionOf}
 use Rattle.numbers.specs.declared.marks.Section.{Section}
 use Rattle.numbers.specs.declared.marks.Section.the-variants.{Snapshot, Cycle, Directory, Tailer, Unknown}
 use Rattle.tables.specs.Lists.{Lists, nth, signals}
+use Rattle.values.specs.declared.How.{How}
 use Rattle.values.specs.declared.Read.{Read}
 use Rattle.values.specs.declared.Read.the-variants.{Value, Bad}
 use Rattle.values.specs.Value.{onRead, unsigned, signed, value}
@@ -33,7 +34,8 @@ use Rattle.room_bounds.specs.Costs.{Covers}
 pub record Pays (t : Lists) (s : List ℕ) (cost : Act → ℕ) (budget : ℕ → ℕ) : Type 0 where
   pub spare : ℕ
   pub more : (i j : ℕ) → i ≤ j → budget i ≤ budget j
-  pub ofWrite : (id q i v j : ℕ) → value (nth (t .kinds) id) s i ≡ Value v j → budget i + cost (write id v q) ≤ budget j
+  pub ofWrite : (how : How) (id q i v j : ℕ) → value how (nth (t .kinds) id) s i ≡ Value v j
+      → budget i + cost (write id v q) ≤ budget j
   -- a head has 8 bytes or more
   pub ofHead : (u i j : ℕ) → i + 8 ≤ j → budget i + cost (time u) + cost stepEnd ≤ budget j
   pub ofEnd : (i j : ℕ) → i < j → budget i + cost stepEnd + spare ≤ budget j
@@ -69,17 +71,17 @@ module _ (t : Lists) (s : List ℕ) (cost : Act → ℕ) (budget : ℕ → ℕ) 
 
   -- ---- the writes of a step
 
-  each-value : (count id i n : ℕ) (k : ℕ → Scan) → n + S ≤ budget i → i ≤ length s
+  each-value : (how : How) (count id i n : ℕ) (k : ℕ → Scan) → n + S ≤ budget i → i ≤ length s
       → ((j m : ℕ) → m + S ≤ budget j → j ≤ length s → Cov m (k j))
-      → Cov n (and-then (eachValue t s count id i) k)
+      → Cov n (and-then (eachValue t how s count id i) k)
   unfolding eachValue and-then Covers
-  each-value zero id i n k l g h = h i n l g
-  each-value (suc count) id i n k l g h =
-      read-on (λ sc. Cov n (and-then sc k)) s i (value (nth (t .kinds) id) s i)
-      _ _ (value-ahead (nth (t .kinds) id) s i) (λ m p. tt)
+  each-value how zero id i n k l g h = h i n l g
+  each-value how (suc count) id i n k l g h =
+      read-on (λ sc. Cov n (and-then sc k)) s i (value how (nth (t .kinds) id) s i)
+      _ _ (value-ahead how (nth (t .kinds) id) s i) (λ m p. tt)
       (λ v j e a b. let w =
-      pays .ofWrite id i i v j e in
-      (omega arith, b, each-value count (suc id) j (n + cost (write id v i)) k (omega arith) b h))
+      pays .ofWrite how id i i v j e in
+      (omega arith, b, each-value how count (suc id) j (n + cost (write id v i)) k (omega arith) b h))
 
   IdFound : ℕ → NextId → Type 0
   IdFound i (ids.Id id′ j) = (i < j) × (j ≤ length s)
@@ -93,31 +95,34 @@ module _ (t : Lists) (s : List ℕ) (cost : Act → ℕ) (budget : ℕ → ℕ) 
       (λ d j e a b. cond-ind (eqb d 0) _ _ (IdFound i) (λ q. (a, b))
       (λ q. cond-ind (leb (id + d) (signals t)) _ _ (IdFound i) (λ l. (a, b)) (λ l. tt)))
 
-  one-change : (i n : ℕ) (x : NextId) (more : ℕ → ℕ → Scan) (k : ℕ → Scan) → IdFound i x → n ≤ budget i
+  one-change : (how : How) (i n : ℕ) (x : NextId) (more : ℕ → ℕ → Scan) (k : ℕ → Scan) → IdFound i x → n ≤ budget i
       → ((j m : ℕ) → m + S + pays .spare ≤ budget j → j ≤ length s → Cov m (k j))
       → ((id j m : ℕ) → m ≤ budget j → j ≤ length s → Cov m (and-then (more id j) k))
-      → Cov n (and-then (oneChange t s x more) k)
+      → Cov n (and-then (oneChange t how s x more) k)
   unfolding oneChange IdFound and-then Covers
-  one-change i n (ids.Id id j) more k o l h rec =
+  one-change how i n (ids.Id id j) more k o l h rec =
       let f = pays .more i j (omega (arith, o .0)) in
-      read-on (λ sc. Cov n (and-then sc k)) s j (value (nth (t .kinds) id) s j)
-      _ _ (value-ahead (nth (t .kinds) id) s j) (λ m p. tt)
+      read-on (λ sc. Cov n (and-then sc k)) s j (value how (nth (t .kinds) id) s j)
+      _ _ (value-ahead how (nth (t .kinds) id) s j) (λ m p. tt)
       (λ v e q a b. let w =
-      pays .ofWrite id j j v e q in (omega arith, b, rec id e (n + cost (write id v j)) (omega arith) b))
-  one-change i n (ids.End j) more k o l h rec = h j n (omega (arith, pays .ofEnd i j (o .0))) (o .1)
-  one-change i n (ids.Bad m p) more k o l h rec = tt
+      pays .ofWrite how id j j v e q in (omega arith, b, rec id e (n + cost (write id v j)) (omega arith) b))
+  one-change how i n (ids.End j) more k o l h rec = h j n (omega (arith, pays .ofEnd i j (o .0))) (o .1)
+  one-change how i n (ids.Bad m p) more k o l h rec = tt
 
-  change-list : (fuel id i n : ℕ) (k : ℕ → Scan) → n ≤ budget i
+  change-list : (how : How) (fuel id i n : ℕ) (k : ℕ → Scan) → n ≤ budget i
       → ((j m : ℕ) → m + S + pays .spare ≤ budget j → j ≤ length s → Cov m (k j))
-      → Cov n (and-then (changeList t s fuel id i) k)
+      → Cov n (and-then (changeList t how s fuel id i) k)
   unfolding changeList and-then Covers
-  change-list zero id i n k l h = tt
-  change-list (suc fuel) id i n k l h =
-      one-change i n (nextId t s id i) _ k (id-found id i) l h (λ id′ j m a b. change-list fuel id′ j m k a h)
+  change-list how zero id i n k l h = tt
+  change-list how (suc fuel) id i n k l h =
+      one-change how i n (nextId t s id i) _ k (id-found id i) l h (λ id′ j m a b. change-list how fuel id′ j m k a h)
 
   -- ---- sections
 
-  module _ (flag : Bool) where
+  module _ (how : How) where
+    abbrev flag : Bool
+    flag = how .«big_endian»
+
     TimeFound : ℕ → NextTime → Type 0
     TimeFound i (times.Time u j) = (i < j) × (j ≤ length s)
     TimeFound i (times.End j) = (i < j) × (j ≤ length s)
@@ -133,7 +138,7 @@ module _ (t : Lists) (s : List ℕ) (cost : Act → ℕ) (budget : ℕ → ℕ) 
     module _ (k : ℕ → Scan) (h : (j m : ℕ) → m ≤ budget j → j ≤ length s → Cov m (k j)) where
       one-step : (i n : ℕ) (x : NextTime) (more : ℕ → ℕ → Scan) → TimeFound i x → n + pays .spare ≤ budget i
           → ((u j m : ℕ) → m ≤ budget j → j ≤ length s → Cov m (and-then (more u j) k))
-          → Cov n (and-then (oneStep t flag s x more) k)
+          → Cov n (and-then (oneStep t how s x more) k)
       unfolding oneStep TimeFound and-then Covers
       one-step i n (times.Time u j) more o l rec = let f =
           pays .ofTime u i j (o .0) in (omega arith, o .1, rec u j (n + cost (time u)) (omega arith) (o .1))
@@ -141,12 +146,12 @@ module _ (t : Lists) (s : List ℕ) (cost : Act → ℕ) (budget : ℕ → ℕ) 
           mark-on ecy j n k (omega (arith, pays .more i j (omega (arith, o .0)))) (λ e a b. h e n a b)
       one-step i n (times.Bad m p) more o l rec = tt
 
-      in-steps : (fuel u i n : ℕ) → n ≤ budget i → Cov n (and-then (steps t flag s fuel u i) k)
+      in-steps : (fuel u i n : ℕ) → n ≤ budget i → Cov n (and-then (steps t how s fuel u i) k)
       unfolding steps and-then Covers
       in-steps zero u i n l = tt
       in-steps (suc fuel) u i n l =
-          subst (λ sc. Cov n sc) (sym (then-then (changeList t s (length s) 0 i) _ k))
-          (change-list (length s) 0 i n _ l
+          subst (λ sc. Cov n sc) (sym (then-then (changeList t how s (length s) 0 i) _ k))
+          (change-list how (length s) 0 i n _ l
           (λ j m a b. (
             omega arith,
             b,
@@ -154,7 +159,7 @@ module _ (t : Lists) (s : List ℕ) (cost : Act → ℕ) (budget : ℕ → ℕ) 
                 (λ u′ e m′ c d. in-steps fuel u′ e m′ c),
           )))
 
-      in-cycle : (i n : ℕ) → n ≤ budget i → Cov n (and-then (cycle t flag s i) k)
+      in-cycle : (i n : ℕ) → n ≤ budget i → Cov n (and-then (cycle t how s i) k)
       unfolding cycle and-then Covers
       in-cycle i n l =
           field-on (λ sc. Cov n (and-then sc k)) 8 s i _
@@ -165,7 +170,7 @@ module _ (t : Lists) (s : List ℕ) (cost : Act → ℕ) (budget : ℕ → ℕ) 
                 (omega arith),
           )) tt
 
-      in-snapshot : (i n : ℕ) → n ≤ budget i → Cov n (and-then (snapshot t flag s i) k)
+      in-snapshot : (i n : ℕ) → n ≤ budget i → Cov n (and-then (snapshot t how s i) k)
       unfolding snapshot and-then Covers
       in-snapshot i n l =
           field-on (λ sc. Cov n (and-then sc k)) 12 s i _
@@ -175,15 +180,15 @@ module _ (t : Lists) (s : List ℕ) (cost : Act → ℕ) (budget : ℕ → ℕ) 
           let f = pays .ofHead u i (i + 12) (omega arith) in (
             omega arith,
             g,
-            subst (λ sc. Cov (n + cost (time u)) sc) (sym (then-then (eachValue t s (signals t) 1 (i + 12)) _ k))
-                (each-value (signals t) 1 (i + 12) (n + cost (time u)) _ (omega arith) g
+            subst (λ sc. Cov (n + cost (time u)) sc) (sym (then-then (eachValue t how s (signals t) 1 (i + 12)) _ k))
+                (each-value how (signals t) 1 (i + 12) (n + cost (time u)) _ (omega arith) g
                 (λ j m a b. (a, b, mark-on esn j (m + S) k a (λ d x y. h d (m + S) x y)))),
           ))
           (λ e. tt))
           tt
 
       in-entries : (f : ℕ → Scan) (n : ℕ) → ((j : ℕ) → n ≤ budget j → Cov n (and-then (f j) k)) → (count i : ℕ)
-          → n ≤ budget i → Cov n (and-then (and-then (entries t flag s count i) f) k)
+          → n ≤ budget i → Cov n (and-then (and-then (entries t how s count i) f) k)
       unfolding entries and-then Covers
       in-entries f n g zero i l = g i l
       in-entries f n g (suc count) i l =
@@ -195,7 +200,7 @@ module _ (t : Lists) (s : List ℕ) (cost : Act → ℕ) (budget : ℕ → ℕ) 
           tt)
           tt
 
-      in-directory : (i n : ℕ) → n ≤ budget i → Cov n (and-then (directory t flag s i) k)
+      in-directory : (i n : ℕ) → n ≤ budget i → Cov n (and-then (directory t how s i) k)
       unfolding directory and-then Covers
       in-directory i n l =
           field-on (λ sc. Cov n (and-then sc k)) 8 s i _
@@ -204,7 +209,7 @@ module _ (t : Lists) (s : List ℕ) (cost : Act → ℕ) (budget : ℕ → ℕ) 
           (omega (arith, pays .more i (i + 8) (omega arith)))))
           tt
 
-      one-section : (x : Section) (mark i n : ℕ) → n ≤ budget i → Cov n (oneSection t flag s x mark i k)
+      one-section : (x : Section) (mark i n : ℕ) → n ≤ budget i → Cov n (oneSection t how s x mark i k)
       unfolding oneSection Covers
       one-section Snapshot mark i n l = in-snapshot i n l
       one-section Cycle mark i n l = in-cycle i n l
@@ -212,14 +217,14 @@ module _ (t : Lists) (s : List ℕ) (cost : Act → ℕ) (budget : ℕ → ℕ) 
       one-section Tailer mark i n l = field-on (Cov n) 8 s i done (λ g. tt) tt
       one-section Unknown mark i n l = tt
 
-    in-sections : (fuel i n : ℕ) → n ≤ budget i → Cov n (sections t flag s fuel i)
+    in-sections : (fuel i n : ℕ) → n ≤ budget i → Cov n (sections t how s fuel i)
     unfolding sections Covers
     in-sections zero i n l = tt
     in-sections (suc fuel) i n l =
         field-on (Cov n) 4 s i _
-        (λ g. one-section (λ j. sections t flag s fuel j) (λ j m a b. in-sections fuel j m a) (sectionOf (part s i 4))
+        (λ g. one-section (λ j. sections t how s fuel j) (λ j m a b. in-sections fuel j m a) (sectionOf (part s i 4))
         i (i + 4) n (omega (arith, pays .more i (i + 4) (omega arith)))) tt
 
-    pub sections-covered : Covers cost budget (length s) 0 (scanSections t flag s)
+    pub sections-covered : Covers cost budget (length s) 0 (scanSections t how s)
     unfolding scanSections
     sections-covered = in-sections (length s) 0 0 (omega arith)

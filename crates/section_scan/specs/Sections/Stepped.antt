@@ -15,6 +15,7 @@ use Rattle.numbers.specs.Marks.{same, esn, ecy, eod, sectionOf}
 use Rattle.numbers.specs.declared.marks.Section.{Section}
 use Rattle.numbers.specs.declared.marks.Section.the-variants.{Snapshot, Cycle, Directory, Tailer, Unknown}
 use Rattle.tables.specs.Lists.{Lists, nth, signals}
+use Rattle.values.specs.declared.How.{How}
 use Rattle.values.specs.declared.Read.{Read}
 use Rattle.values.specs.declared.Read.the-variants.{Value, Bad}
 use Rattle.values.specs.Value.{onRead, unsigned, signed, value}
@@ -58,12 +59,12 @@ module _ (t : Lists) (s : List ℕ) where
 
   -- ---- the writes of a step
 
-  each-value : (count id i m : ℕ) (k : ℕ → Scan) → m < id → ((j n : ℕ) → Goes (k j) true n) → Goes (and-then (eachValue t s count id i) k) true m
+  each-value : (how : How) (count id i m : ℕ) (k : ℕ → Scan) → m < id → ((j n : ℕ) → Goes (k j) true n) → Goes (and-then (eachValue t how s count id i) k) true m
   unfolding eachValue and-then Ordered
-  each-value zero id i m k l h = h i m
-  each-value (suc count) id i m k l h =
-      read-on (λ sc. Goes (and-then sc k) true m) (value (nth (t .kinds) id) s i) _ _ (value-reads (nth (t .kinds) id) s i) (λ n p r. r)
-      (λ v j. (l, each-value count (suc id) j id k (omega arith) h))
+  each-value how zero id i m k l h = h i m
+  each-value how (suc count) id i m k l h =
+      read-on (λ sc. Goes (and-then sc k) true m) (value how (nth (t .kinds) id) s i) _ _ (value-reads how (nth (t .kinds) id) s i) (λ n p r. r)
+      (λ v j. (l, each-value how count (suc id) j id k (omega arith) h))
 
   IdFound : ℕ → NextId → Type 0
   IdFound id (ids.Id id′ j) = id < id′
@@ -77,22 +78,22 @@ module _ (t : Lists) (s : List ℕ) where
       (λ d j. cond-ind (eqb d 0) _ _ (IdFound id) (λ e. tt)
       (λ e. cond-ind (leb (id + d) (signals t)) _ _ (IdFound id) (λ l. omega (arith, eqb-false d 0 e)) (λ l. (omega arith, omega arith))))
 
-  one-change : (id : ℕ) (x : NextId) (more : ℕ → ℕ → Scan) (k : ℕ → Scan) → IdFound id x → ((j n : ℕ) → Goes (k j) true n)
-      → ((id′ j : ℕ) → Goes (and-then (more id′ j) k) true id′) → Goes (and-then (oneChange t s x more) k) true id
+  one-change : (how : How) (id : ℕ) (x : NextId) (more : ℕ → ℕ → Scan) (k : ℕ → Scan) → IdFound id x → ((j n : ℕ) → Goes (k j) true n)
+      → ((id′ j : ℕ) → Goes (and-then (more id′ j) k) true id′) → Goes (and-then (oneChange t how s x more) k) true id
   unfolding oneChange IdFound and-then Ordered
-  one-change id (ids.Id id′ j) more k o h rec =
-      read-on (λ sc. Goes (and-then sc k) true id) (value (nth (t .kinds) id′) s j) _ _ (value-reads (nth (t .kinds) id′) s j) (λ n p r. r) (λ v e. (o, rec id′ e))
-  one-change id (ids.End j) more k o h rec = h j id
-  one-change id (ids.Bad n p) more k o h rec = o
+  one-change how id (ids.Id id′ j) more k o h rec =
+      read-on (λ sc. Goes (and-then sc k) true id) (value how (nth (t .kinds) id′) s j) _ _ (value-reads how (nth (t .kinds) id′) s j) (λ n p r. r) (λ v e. (o, rec id′ e))
+  one-change how id (ids.End j) more k o h rec = h j id
+  one-change how id (ids.Bad n p) more k o h rec = o
 
-  change-list : (fuel id i : ℕ) (k : ℕ → Scan) → ((j n : ℕ) → Goes (k j) true n) → Goes (and-then (changeList t s fuel id i) k) true id
+  change-list : (how : How) (fuel id i : ℕ) (k : ℕ → Scan) → ((j n : ℕ) → Goes (k j) true n) → Goes (and-then (changeList t how s fuel id i) k) true id
   unfolding changeList and-then Ordered
-  change-list zero id i k h = (omega arith, omega arith)
-  change-list (suc fuel) id i k h = one-change id (nextId t s id i) _ k (id-found id i) h (λ id′ j. change-list fuel id′ j k h)
+  change-list how zero id i k h = (omega arith, omega arith)
+  change-list how (suc fuel) id i k h = one-change how id (nextId t s id i) _ k (id-found id i) h (λ id′ j. change-list how fuel id′ j k h)
 
   -- ---- sections
 
-  module _ (flag : Bool) where
+  module _ (how : How) where
     TimeFound : NextTime → Type 0
     TimeFound (times.Time u j) = Unit {0}
     TimeFound (times.End j) = Unit {0}
@@ -105,53 +106,53 @@ module _ (t : Lists) (s : List ℕ) where
         (λ d j. cond-ind (negative 64 d) _ _ TimeFound (λ e. tt) (λ e. cond-ind (ltb (u + d) (2 ^ 64)) _ _ TimeFound (λ l. tt) (λ l. (omega arith, omega arith))))
 
     module _ (k : ℕ → Scan) (h : (j : ℕ) → Goes (k j) false 0) where
-      one-step : (x : NextTime) (more : ℕ → ℕ → Scan) → TimeFound x → ((u j : ℕ) → Goes (and-then (more u j) k) true 0) → Goes (and-then (oneStep t flag s x more) k) false 0
+      one-step : (x : NextTime) (more : ℕ → ℕ → Scan) → TimeFound x → ((u j : ℕ) → Goes (and-then (more u j) k) true 0) → Goes (and-then (oneStep t how s x more) k) false 0
       unfolding oneStep TimeFound and-then Ordered
       one-step (times.Time u j) more o rec = rec u j
       one-step (times.End j) more o rec = mark-on ecy j k false 0 h
       one-step (times.Bad n p) more o rec = o
 
-      in-steps : (fuel u i : ℕ) → Goes (and-then (steps t flag s fuel u i) k) true 0
+      in-steps : (fuel u i : ℕ) → Goes (and-then (steps t how s fuel u i) k) true 0
       unfolding steps and-then Ordered
       in-steps zero u i = (omega arith, omega arith)
       in-steps (suc fuel) u i =
-          subst (λ sc. Goes sc true 0) (sym (then-then (changeList t s (length s) 0 i) _ k))
-          (change-list (length s) 0 i _ (λ j n. one-step (nextTime s u j) _ (time-found u j) (λ u′ e. in-steps fuel u′ e)))
+          subst (λ sc. Goes sc true 0) (sym (then-then (changeList t how s (length s) 0 i) _ k))
+          (change-list how (length s) 0 i _ (λ j n. one-step (nextTime s u j) _ (time-found u j) (λ u′ e. in-steps fuel u′ e)))
 
-      in-cycle : (i : ℕ) → Goes (and-then (cycle t flag s i) k) false 0
+      in-cycle : (i : ℕ) → Goes (and-then (cycle t how s i) k) false 0
       unfolding cycle and-then Ordered
       in-cycle i = field-on (λ sc. Goes (and-then sc k) false 0) 8 s i _ (λ l. in-steps (length s) _ (i + 8)) (omega arith, omega arith)
 
-      in-snapshot : (i : ℕ) → Goes (and-then (snapshot t flag s i) k) false 0
+      in-snapshot : (i : ℕ) → Goes (and-then (snapshot t how s i) k) false 0
       unfolding snapshot and-then Ordered
       in-snapshot i =
           field-on (λ sc. Goes (and-then sc k) false 0) 12 s i _
           (λ l. cond-ind (same (part s i 4) (replicate 4 0)) _ _ (λ sc. Goes (and-then sc k) false 0)
           (λ e.
-          subst (λ sc. Goes sc true 0) (sym (then-then (eachValue t s (signals t) 1 (i + 12)) _ k))
-          (each-value (signals t) 1 (i + 12) 0 _ (omega arith) (λ j n. mark-on esn j k false 0 h)))
+          subst (λ sc. Goes sc true 0) (sym (then-then (eachValue t how s (signals t) 1 (i + 12)) _ k))
+          (each-value how (signals t) 1 (i + 12) 0 _ (omega arith) (λ j n. mark-on esn j k false 0 h)))
           (λ e. (omega arith, omega arith)))
           (omega arith, omega arith)
 
-      in-entries : (f : ℕ → Scan) → ((j : ℕ) → Goes (and-then (f j) k) false 0) → (count i : ℕ) → Goes (and-then (and-then (entries t flag s count i) f) k) false 0
+      in-entries : (f : ℕ → Scan) → ((j : ℕ) → Goes (and-then (f j) k) false 0) → (count i : ℕ) → Goes (and-then (and-then (entries t how s count i) f) k) false 0
       unfolding entries and-then Ordered
       in-entries f g zero i = g i
       in-entries f g (suc count) i =
           field-on (λ sc. Goes (and-then (and-then sc f) k) false 0) 4 s i _
           (λ l. field-on (λ sc. Goes (and-then (and-then sc f) k) false 0) 4 s (i + 4) _
-          (λ l. cond-ind (negative 32 (fixed flag (part s (i + 4) 4))) _ _ (λ sc. Goes (and-then (and-then sc f) k) false 0) (λ e. (omega arith, omega arith)) (λ e. in-entries f g count (i + 4 + 4)))
+          (λ l. cond-ind (negative 32 (fixed (how .«big_endian») (part s (i + 4) 4))) _ _ (λ sc. Goes (and-then (and-then sc f) k) false 0) (λ e. (omega arith, omega arith)) (λ e. in-entries f g count (i + 4 + 4)))
           (omega arith, omega arith))
           (omega arith, omega arith)
 
-      in-directory : (i : ℕ) → Goes (and-then (directory t flag s i) k) false 0
+      in-directory : (i : ℕ) → Goes (and-then (directory t how s i) k) false 0
       unfolding directory and-then Ordered
       in-directory i =
           field-on (λ sc. Goes (and-then sc k) false 0) 8 s i _
-          (λ l. cond-ind (negative 32 (fixed flag (part s (i + 4) 4))) _ _ (λ sc. Goes (and-then sc k) false 0)
+          (λ l. cond-ind (negative 32 (fixed (how .«big_endian») (part s (i + 4) 4))) _ _ (λ sc. Goes (and-then sc k) false 0)
           (λ e. (omega arith, omega arith)) (λ e. in-entries (λ j. endMark eod s j) (λ j. mark-on eod j k false 0 h) _ (i + 8)))
           (omega arith, omega arith)
 
-      in-section : (x : Section) (mark i : ℕ) → Goes (oneSection t flag s x mark i k) false 0
+      in-section : (x : Section) (mark i : ℕ) → Goes (oneSection t how s x mark i k) false 0
       unfolding oneSection Ordered
       in-section Snapshot mark i = in-snapshot i
       in-section Cycle mark i = in-cycle i
@@ -159,28 +160,28 @@ module _ (t : Lists) (s : List ℕ) where
       in-section Tailer mark i = field-on (λ sc. Goes sc false 0) 8 s i done (λ l. l) (omega arith, omega arith)
       in-section Unknown mark i = (omega arith, omega arith)
 
-    in-sections : (fuel i : ℕ) → Goes (sections t flag s fuel i) false 0
+    in-sections : (fuel i : ℕ) → Goes (sections t how s fuel i) false 0
     unfolding sections Ordered
     in-sections zero i = (omega arith, omega arith)
-    in-sections (suc fuel) i = field-on (λ sc. Goes sc false 0) 4 s i _ (λ l. in-section (λ j. sections t flag s fuel j) (λ j. in-sections fuel j) (sectionOf (part s i 4)) i (i + 4)) (omega arith, omega arith)
+    in-sections (suc fuel) i = field-on (λ sc. Goes sc false 0) 4 s i _ (λ l. in-section (λ j. sections t how s fuel j) (λ j. in-sections fuel j) (sectionOf (part s i 4)) i (i + 4)) (omega arith, omega arith)
 
 -- ---- section reading
 
-module _ (t : Lists) (flag : Bool) (s : List ℕ) where
-  ordered : Goes t s (scanSections t flag s) false 0
+module _ (t : Lists) (how : How) (s : List ℕ) where
+  ordered : Goes t s (scanSections t how s) false 0
   unfolding scanSections
-  ordered = in-sections t s flag (length s) 0
+  ordered = in-sections t s how (length s) 0
 
   -- "Snapshot: .. a value for each id 1..n, step end"; "Each step: a change list, step end": where the tailer was read
-  pub sections-stepped : (i : ℕ) → Ends i (scanSections t flag s) → Stepped (acts (scanSections t flag s))
-  sections-stepped i = ordered-steps _ _ _ (scanSections t flag s) false 0 i ordered
+  pub sections-stepped : (i : ℕ) → Ends i (scanSections t how s) → Stepped (acts (scanSections t how s))
+  sections-stepped i = ordered-steps _ _ _ (scanSections t how s) false 0 i ordered
 
   -- "each added to the last id (from 0) ..; delta 0 ends it"
-  pub sections-rising : Rising 0 (acts (scanSections t flag s))
-  sections-rising = ordered-rising _ _ (scanSections t flag s) false 0 ordered
+  pub sections-rising : Rising 0 (acts (scanSections t how s))
+  sections-rising = ordered-rising _ _ (scanSections t how s) false 0 ordered
 
-  pub sections-end : (i : ℕ) → Ends i (scanSections t flag s) → i ≤ length s
-  sections-end i = ordered-end _ _ _ (scanSections t flag s) false 0 i ordered
+  pub sections-end : (i : ℕ) → Ends i (scanSections t how s) → i ≤ length s
+  sections-end i = ordered-end _ _ _ (scanSections t how s) false 0 i ordered
 
-  pub sections-number : (n p : ℕ) → Faults n p (scanSections t flag s) → SectionNumber n
-  sections-number n p = ordered-fault _ _ _ (scanSections t flag s) false 0 n p ordered
+  pub sections-number : (n p : ℕ) → Faults n p (scanSections t how s) → SectionNumber n
+  sections-number n p = ordered-fault _ _ _ (scanSections t how s) false 0 n p ordered

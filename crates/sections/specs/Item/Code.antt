@@ -16,7 +16,7 @@ use Rattle.section_scan.specs.Sections.{withKinds}
 use Rattle.section_scan.specs.Sections.{nextId, nextTime}
 use Rattle.section_scan.specs.Sections.Deltas.{IdAhead, id-ahead, id-bad, id-end, id-found, id-past, time-bad, time-end, time-found, time-past}
 use Rattle.section_scan.specs.declared.NextId.{NextId}
-use Rattle.section_heads.specs.declared.How.{How}
+use Rattle.values.specs.declared.How.{How}
 use Rattle.section_heads.specs.declared.Phase.{Phase}
 use Rattle.section_heads.specs.declared.Phase.the-variants.{Each, Closing, Between, Entries, Listed}
 use Rattle.section_heads.specs.declared.Stand.{Stand}
@@ -117,31 +117,31 @@ pub ruleset each-laws = (each-more, each-none)
 
 -- ---- a value
 
-module _ (kinds s : List ℕ) (x : Stand) (id i : ℕ) {k : ℕ} (q : k ≡ nth kinds id) {r : Read} (e : r ≡ value k s i) {y : Item} where
-  pub write-found : {v j : ℕ} → r ≡ read.Value v j → {z : Stand} → z ≡ standing (x .phase) id (x .time) → y ≡ goes j (Write v id) z → y ≡ writeItem kinds s x id i
+module _ (kinds : List ℕ) (how : How) (s : List ℕ) (x : Stand) (id i : ℕ) {k : ℕ} (q : k ≡ nth kinds id) {r : Read} (e : r ≡ value how k s i) {y : Item} where
+  pub write-found : {v j : ℕ} → r ≡ read.Value v j → {z : Stand} → z ≡ standing (x .phase) id (x .time) → y ≡ goes j (Write v id) z → y ≡ writeItem kinds how s x id i
   unfolding writeItem onRead
   write-found {v} {j} d g w = w ∙ (ap (goes j (Write v id)) g ∙ rw (← q, sym e ∙ d))
 
-  pub write-bad : {n p : ℕ} → r ≡ read.Bad n p → y ≡ bad n p → y ≡ writeItem kinds s x id i
+  pub write-bad : {n p : ℕ} → r ≡ read.Bad n p → y ≡ bad n p → y ≡ writeItem kinds how s x id i
   unfolding writeItem onRead
   write-bad d w = w ∙ rw (← q, sym e ∙ d)
 
 pub ruleset write-laws = (write-found, write-bad)
 
-module _ (kinds s : List ℕ) (x : Stand) (i : ℕ) {c : Read} (e : c ≡ nextOf kinds s (x .phase) (x .id) i) where
+module _ (kinds : List ℕ) (how : How) (s : List ℕ) (x : Stand) (i : ℕ) {c : Read} (e : c ≡ nextOf kinds s (x .phase) (x .id) i) where
   pub value-id : {id j : ℕ} → c ≡ read.Value id j → (id ≡ 0 → ⊥) → IdOf kinds id
   value-id d n = subst (RangedBy kinds) (sym e ∙ d) (of-ranged kinds s (x .phase) (x .id) i) n
 
   module _ {r : Item} where
-    pub value-end : {id j : ℕ} → c ≡ read.Value id j → id ≡ 0 → {p : Phase} → p ≡ afterValues (x .phase) → {z : Stand} → z ≡ standing p 0 (x .time) → r ≡ goes j StepEnd z → r ≡ valueItem kinds s x i
+    pub value-end : {id j : ℕ} → c ≡ read.Value id j → id ≡ 0 → {p : Phase} → p ≡ afterValues (x .phase) → {z : Stand} → z ≡ standing p 0 (x .time) → r ≡ goes j StepEnd z → r ≡ valueItem kinds how s x i
     unfolding valueItem onRead foundItem
     value-end {id} {j} d n {p} a g w = w ∙ (ap (goes j StepEnd) (g ∙ ap (λ p. standing p 0 (x .time)) a) ∙ rw (sym e ∙ d, n))
 
-    pub value-found : {id j : ℕ} → c ≡ read.Value id j → (id ≡ 0 → ⊥) → r ≡ writeItem kinds s x id j → r ≡ valueItem kinds s x i
+    pub value-found : {id j : ℕ} → c ≡ read.Value id j → (id ≡ 0 → ⊥) → r ≡ writeItem kinds how s x id j → r ≡ valueItem kinds how s x i
     unfolding valueItem onRead foundItem
     value-found {id} d n w = w ∙ rw (sym e ∙ d, ne-eqb id 0 n)
 
-    pub value-bad : {n p : ℕ} → c ≡ read.Bad n p → r ≡ bad n p → r ≡ valueItem kinds s x i
+    pub value-bad : {n p : ℕ} → c ≡ read.Bad n p → r ≡ bad n p → r ≡ valueItem kinds how s x i
     unfolding valueItem onRead
     value-bad d w = w ∙ rw (sym e ∙ d)
 
@@ -212,7 +212,7 @@ pub record Stands (kinds : List ℕ) (x : Stand) : Type 0 where
   pub stood : Stood kinds x
 
 module _ (kinds : List ℕ) (how : How) (s : List ℕ) (x : Stand) (i : ℕ) {m : Bool} (e : m ≡ inValues (x .phase)) {r : Item} where
-  pub item-value : m ≡ true → r ≡ valueItem kinds s x i → r ≡ nextItem kinds how s x i
+  pub item-value : m ≡ true → r ≡ valueItem kinds how s x i → r ≡ nextItem kinds how s x i
   unfolding nextItem
   item-value d w = w ∙ rw (sym e ∙ d)
 

@@ -30,7 +30,7 @@ use Rattle.section_scan.specs.declared.NextId.{NextId}
 use Rattle.section_scan.specs.declared.NextId.the-variants as ids
 use Rattle.section_scan.specs.declared.NextTime.{NextTime}
 use Rattle.section_scan.specs.declared.NextTime.the-variants as times
-use Rattle.section_heads.specs.declared.How.{How}
+use Rattle.values.specs.declared.How.{How}
 use Rattle.section_heads.specs.declared.Phase.{Phase}
 use Rattle.section_heads.specs.declared.Phase.the-variants.{Mark, Entries, Each, Closing, Listed, Between}
 use Rattle.section_heads.specs.declared.Stand.{Stand}
@@ -109,18 +109,15 @@ unfoldable pub toRead : List ℕ → Stand → ℕ → ℕ
 toRead s x i = 2 * (length s - i) + rank (x .phase)
 
 module _ (t : Lists) (how : How) (s : List ℕ) where
-  abbrev flag : Bool
-  flag = how .«big_endian»
-
   -- what section reading scans from a phase on
   unfoldable pub scanFrom : (fL fS fT : ℕ) → Phase → (id u i : ℕ) → Scan
-  scanFrom fL fS fT Mark id u i = sections t flag s fT i
-  scanFrom fL fS fT Entries n u i = and-then (and-then (entries t flag s n i) (λ k. endMark eod s k)) (λ k. sections t flag s fT k)
-  scanFrom fL fS fT Each id u i = and-then (and-then (eachValue t s (signals t - id) (suc id) i) (λ k. say stepEnd k (endMark esn s k))) (λ k. sections t flag s fT k)
-  scanFrom fL fS fT Closing id u i = and-then (endMark esn s i) (λ k. sections t flag s fT k)
+  scanFrom fL fS fT Mark id u i = sections t how s fT i
+  scanFrom fL fS fT Entries n u i = and-then (and-then (entries t how s n i) (λ k. endMark eod s k)) (λ k. sections t how s fT k)
+  scanFrom fL fS fT Each id u i = and-then (and-then (eachValue t how s (signals t - id) (suc id) i) (λ k. say stepEnd k (endMark esn s k))) (λ k. sections t how s fT k)
+  scanFrom fL fS fT Closing id u i = and-then (endMark esn s i) (λ k. sections t how s fT k)
   scanFrom fL fS fT Listed id u i =
-      and-then (and-then (changeList t s fL id i) (λ j. say stepEnd j (oneStep t flag s (nextTime s u j) (λ u′ e. steps t flag s fS u′ e)))) (λ k. sections t flag s fT k)
-  scanFrom fL fS fT Between id u i = and-then (oneStep t flag s (nextTime s u i) (λ u′ e. steps t flag s fS u′ e)) (λ k. sections t flag s fT k)
+      and-then (and-then (changeList t how s fL id i) (λ j. say stepEnd j (oneStep t how s (nextTime s u j) (λ u′ e. steps t how s fS u′ e)))) (λ k. sections t how s fT k)
+  scanFrom fL fS fT Between id u i = and-then (oneStep t how s (nextTime s u i) (λ u′ e. steps t how s fS u′ e)) (λ k. sections t how s fT k)
 
   -- fuel for more items than are left
   pub record Enough (i fL fS fT : ℕ) : Type 0 where
@@ -217,7 +214,7 @@ module _ (t : Lists) (how : How) (s : List ℕ) where
   module _ (r : ℕ) where
     -- a scan with the sections after it
     abbrev Goes : (i fT : ℕ) → Scan → Item → Type 0
-    Goes i fT sc x = Follows r i (and-then sc (λ k. sections t flag s fT k)) x
+    Goes i fT sc x = Follows r i (and-then sc (λ k. sections t how s fT k)) x
 
     -- ---- an end mark
 
@@ -231,7 +228,7 @@ module _ (t : Lists) (how : How) (s : List ℕ) where
     -- ---- a step of a cycle is entered
 
     enters : (u i j f fT : ℕ) → i < j → length s ≤ i + f → length s ≤ j + fT
-        → (fL : ℕ) × (fS : ℕ) × Enough j fL fS fT × (and-then (steps t flag s f u j) (λ k. sections t flag s fT k) ≡ scanFrom fL fS fT Listed 0 u j)
+        → (fL : ℕ) × (fS : ℕ) × Enough j fL fS fT × (and-then (steps t how s f u j) (λ k. sections t how s fT k) ≡ scanFrom fL fS fT Listed 0 u j)
     unfolding steps scanFrom changeList and-then
     enters u i j zero fT d h l = (0, 0, record { lists = omega arith; cycles = omega arith; all = l }, refl)
     enters u i j (suc f) fT d h l = (length s, f, record { lists = omega arith; cycles = omega arith; all = l }, refl)
@@ -239,17 +236,17 @@ module _ (t : Lists) (how : How) (s : List ℕ) where
     -- ---- a section
 
     module _ (i fT : ℕ) (h : length s ≤ i + suc fT) where
-      snapshot-follows : (at : ℕ) → i < at → Goes i fT (snapshot t flag s at) (openSnapshot how s at)
+      snapshot-follows : (at : ℕ) → i < at → Goes i fT (snapshot t how s at) (openSnapshot how s at)
       unfolding snapshot openSnapshot and-then sayOf scanFrom
       snapshot-follows at l =
           field-both (Goes i fT) 12 at _ _
           (λ g. cond-both (Goes i fT) (same (part s at 4) (replicate 4 0))
           (on r i _ (Time (fixedAt how s (at + 4) 8)) (standing Each 0 (fixedAt how s (at + 4) 8)) (at + 12) (length s) (length s) fT 0 (omega arith) g
           (record { lists = omega arith; cycles = omega arith; all = omega arith })
-          (ap (λ (n : ℕ). say (time (fixedAt how s (at + 4) 8)) (at + 12) (and-then (and-then (eachValue t s n 1 (at + 12)) (λ k. say stepEnd k (endMark esn s k))) (λ k. sections t flag s fT k))) (omega arith)) tt (λ e. omega arith))
+          (ap (λ (n : ℕ). say (time (fixedAt how s (at + 4) 8)) (at + 12) (and-then (and-then (eachValue t how s n 1 (at + 12)) (λ k. say stepEnd k (endMark esn s k))) (λ k. sections t how s fT k))) (omega arith)) tt (λ e. omega arith))
           refl) refl
 
-      cycle-follows : (at : ℕ) → i < at → Goes i fT (cycle t flag s at) (openCycle how s at)
+      cycle-follows : (at : ℕ) → i < at → Goes i fT (cycle t how s at) (openCycle how s at)
       unfolding cycle openCycle and-then sayOf
       cycle-follows at l =
           field-both (Goes i fT) 8 at _ _
@@ -259,7 +256,7 @@ module _ (t : Lists) (how : How) (s : List ℕ) where
           on r i _ (Time u) (standing Listed 0 u) (at + 8) (e .0) (e .1) fT 0 (omega arith) g (e .2) (ap (say (time u) (at + 8)) (e .3)) tt (λ z. omega arith))
           refl
 
-      directory-follows : (at : ℕ) → i < at → Goes i fT (directory t flag s at) (openDirectory how s at)
+      directory-follows : (at : ℕ) → i < at → Goes i fT (directory t how s at) (openDirectory how s at)
       unfolding directory openDirectory and-then sayOf scanFrom
       directory-follows at l =
           field-both (Goes i fT) 8 at _ _
@@ -267,7 +264,7 @@ module _ (t : Lists) (how : How) (s : List ℕ) where
           (on r i _ Nothing (standing Entries (fixedAt how s (at + 4) 4) 0) (at + 8) (length s) (length s) fT 0 (omega arith) g
           (record { lists = omega arith; cycles = omega arith; all = omega arith }) refl tt free)) refl
 
-      opens-follows : (k : Section) (at : ℕ) → i < at → Follows r i (oneSection t flag s k i at (λ k. sections t flag s fT k)) (opens how s k i at)
+      opens-follows : (k : Section) (at : ℕ) → i < at → Follows r i (oneSection t how s k i at (λ k. sections t how s fT k)) (opens how s k i at)
       unfolding oneSection opens openTailer
       opens-follows section.Snapshot at l = snapshot-follows at l
       opens-follows section.Cycle at l = cycle-follows at l
@@ -275,14 +272,14 @@ module _ (t : Lists) (how : How) (s : List ℕ) where
       opens-follows section.Tailer at l = field-both (λ sc x. Follows r i sc x) 8 at _ _ (λ g. refl) refl
       opens-follows section.Unknown at l = refl
 
-    section-follows : (i fT : ℕ) → length s ≤ i + fT → Follows r i (sections t flag s fT i) (sectionItem how s i)
+    section-follows : (i fT : ℕ) → length s ≤ i + fT → Follows r i (sections t how s fT i) (sectionItem how s i)
     unfolding sections sectionItem
     section-follows i zero h = field-both (λ sc x. Follows r i (fault 7 i) x) 4 i (λ j. done j) _ (λ g. absurd (omega arith)) refl
     section-follows i (suc fT) h = field-both (λ sc x. Follows r i sc x) 4 i _ _ (λ g. opens-follows i fT h (sectionOf (part s i 4)) (i + 4) (omega arith)) refl
 
     -- ---- an entry of a directory
 
-    entry-follows : (n i fL fS fT : ℕ) → Enough i fL fS fT → Goes i fT (and-then (entries t flag s n i) (λ k. endMark eod s k)) (entryItem how s n i)
+    entry-follows : (n i fL fS fT : ℕ) → Enough i fL fS fT → Goes i fT (and-then (entries t how s n i) (λ k. endMark eod s k)) (entryItem how s n i)
     unfolding entries entryItem and-then sayOf scanFrom
     entry-follows zero i fL fS fT e = end-follows eod i i fL fS fT (omega arith) e
     entry-follows (suc n) i fL fS fT e =
@@ -297,11 +294,11 @@ module _ (t : Lists) (how : How) (s : List ℕ) where
     -- ---- a delta between steps
 
     delta-follows : (u i fL fS fT : ℕ) → Enough i fL fS fT
-        → Goes i fT (oneStep t flag s (nextTime s u i) (λ u′ e. steps t flag s fS u′ e)) (timeItem s (timeOf (nextTime s u i)))
+        → Goes i fT (oneStep t how s (nextTime s u i) (λ u′ e. steps t how s fS u′ e)) (timeItem s (timeOf (nextTime s u i)))
     unfolding oneStep timeItem timeOf and-then sayOf
     delta-follows u i fL fS fT e = by (nextTime s u i) (time-ahead s u i)
       where
-        by : (c : NextTime) → TimeAhead s i c → Goes i fT (oneStep t flag s c (λ u′ e. steps t flag s fS u′ e)) (timeItem s (timeOf c))
+        by : (c : NextTime) → TimeAhead s i c → Goes i fT (oneStep t how s c (λ u′ e. steps t how s fS u′ e)) (timeItem s (timeOf c))
         by (times.Time v j) a =
             let w = enters v i j fS fT (a .0) (e .cycles) (omega (arith, a .0, e .all)) in
             on r i _ (Time v) (standing Listed 0 v) j (w .0) (w .1) fT 0 (a .0) (a .1) (w .2) (ap (say (time v) j) (w .3)) tt (λ z. omega arith)
@@ -312,13 +309,13 @@ module _ (t : Lists) (how : How) (s : List ℕ) where
 
     value-follows : (x : Stand) (id i p : ℕ) (k g h : ℕ → Scan) (i₀ : ℕ)
         → ((v j : ℕ) → i < j → j ≤ length s → Suits (nth (t .kinds) id) v → GoesOn r i₀ (say (write id v p) j (and-then (and-then (k j) g) h)) j (Write v id) (standing (x .phase) id (x .time)))
-        → Follows r i₀ (and-then (and-then (onRead (value (nth (t .kinds) id) s i) fault (λ v j. say (write id v p) j (k j))) g) h) (writeItem (t .kinds) s x id i)
+        → Follows r i₀ (and-then (and-then (onRead (value how (nth (t .kinds) id) s i) fault (λ v j. say (write id v p) j (k j))) g) h) (writeItem (t .kinds) how s x id i)
     unfolding writeItem onRead and-then
-    value-follows x id i p k g h i₀ f = by (value (nth (t .kinds) id) s i) refl (value-ahead (nth (t .kinds) id) s i)
+    value-follows x id i p k g h i₀ f = by (value how (nth (t .kinds) id) s i) refl (value-ahead how (nth (t .kinds) id) s i)
       where
-        by : (y : Read) → value (nth (t .kinds) id) s i ≡ y → Ahead s i y
+        by : (y : Read) → value how (nth (t .kinds) id) s i ≡ y → Ahead s i y
             → Follows r i₀ (and-then (and-then (onRead y fault (λ v j. say (write id v p) j (k j))) g) h) (onRead y bad (λ v j. goes j (Write v id) (standing (x .phase) id (x .time))))
-        by (read.Value v j) z a = f v j (a .0) (a .1) (value-suits (nth (t .kinds) id) s i refl z)
+        by (read.Value v j) z a = f v j (a .0) (a .1) (value-suits how (nth (t .kinds) id) s i refl z)
         by (read.Bad n q) z a = refl
 
     -- ---- a change list
@@ -326,7 +323,7 @@ module _ (t : Lists) (how : How) (s : List ℕ) where
     module _ (u id i : ℕ) where
       -- what follows a delta
       abbrev listed : NextId → Item
-      listed c = onRead (idOf c) bad (λ id' j. foundItem (t .kinds) s (standing Listed id u) id' j)
+      listed c = onRead (idOf c) bad (λ id' j. foundItem (t .kinds) how s (standing Listed id u) id' j)
 
       list-follows : (fL fS fT : ℕ) → Enough i fL fS fT → Follows r i (scanFrom fL fS fT Listed id u i) (listed (nextId t s id i))
       unfolding scanFrom changeList oneChange foundItem afterValues idOf onRead and-then sayOf
@@ -334,25 +331,25 @@ module _ (t : Lists) (how : How) (s : List ℕ) where
       list-follows (suc fL) fS fT e = by (nextId t s id i) (id-ahead t s id i)
         where
           rest : ℕ → Scan
-          rest j = say stepEnd j (oneStep t flag s (nextTime s u j) (λ u′ e. steps t flag s fS u′ e))
+          rest j = say stepEnd j (oneStep t how s (nextTime s u j) (λ u′ e. steps t how s fS u′ e))
 
-          by : (c : NextId) → IdAhead t s i c → Goes i fT (and-then (oneChange t s c (λ id′ k. changeList t s fL id′ k)) rest) (listed c)
+          by : (c : NextId) → IdAhead t s i c → Goes i fT (and-then (oneChange t how s c (λ id′ k. changeList t how s fL id′ k)) rest) (listed c)
           by (ids.Id d j) a =
               rw (ne-eqb d 0 (λ z. omega (arith, a .0)))
-              (value-follows (standing Listed id u) d j j (λ k. changeList t s fL d k) rest (λ k. sections t flag s fT k) i
+              (value-follows (standing Listed id u) d j j (λ k. changeList t how s fL d k) rest (λ k. sections t how s fT k) i
               (λ v k l h y.
               on r i _ (Write v d) (standing Listed d u) k fL fS fT j (omega (arith, a .2)) h (further e k (omega (arith, a .2))) refl (record { low = a .0; high = a .1 }, y) (λ z. a .1)))
           by (ids.End j) a = on r i _ StepEnd (standing Between 0 u) j fL fS fT 0 (a .0) (a .1) (further e j (a .0)) refl tt free
           by (ids.Bad n p) a = refl
 
-  listed-follows : (u id i fL fS fT : ℕ) → Enough i fL fS fT → Follows 0 i (scanFrom fL fS fT Listed id u i) (valueItem (t .kinds) s (standing Listed id u) i)
+  listed-follows : (u id i fL fS fT : ℕ) → Enough i fL fS fT → Follows 0 i (scanFrom fL fS fT Listed id u i) (valueItem (t .kinds) how s (standing Listed id u) i)
   unfolding valueItem nextOf idIn
   listed-follows u id i fL fS fT e =
       subst (λ c. Follows 0 i (scanFrom fL fS fT Listed id u i) (listed 0 u id i c)) (sym (id-same t s id i)) (list-follows 0 u id i fL fS fT e)
 
   -- ---- a snapshot
 
-  each-follows : (u id i fL fS fT : ℕ) → i ≤ length s → Enough i fL fS fT → Follows 1 i (scanFrom fL fS fT Each id u i) (valueItem (t .kinds) s (standing Each id u) i)
+  each-follows : (u id i fL fS fT : ℕ) → i ≤ length s → Enough i fL fS fT → Follows 1 i (scanFrom fL fS fT Each id u i) (valueItem (t .kinds) how s (standing Each id u) i)
   unfolding scanFrom valueItem nextOf eachId foundItem afterValues onRead sayOf and-then eachValue rank saidTimes toRead signals
   each-follows u id i fL fS fT w e = by (ltb id (length (t .kinds))) refl
     where
@@ -360,10 +357,10 @@ module _ (t : Lists) (how : How) (s : List ℕ) where
       rest k = say stepEnd k (endMark esn s k)
 
       scan : ℕ → Scan
-      scan n = and-then (and-then (eachValue t s n (suc id) i) rest) (λ k. sections t flag s fT k)
+      scan n = and-then (and-then (eachValue t how s n (suc id) i) rest) (λ k. sections t how s fT k)
 
       found : ℕ → Item
-      found d = foundItem (t .kinds) s (standing Each id u) d i
+      found d = foundItem (t .kinds) how s (standing Each id u) d i
 
       one-more : id < length (t .kinds) → length (t .kinds) - id ≡ suc (length (t .kinds) - suc id)
       one-more h = omega arith
@@ -374,14 +371,14 @@ module _ (t : Lists) (how : How) (s : List ℕ) where
       some : id < length (t .kinds) → Follows 1 i (scan (suc (length (t .kinds) - suc id))) (found (suc id))
       some h =
           rw (ne-eqb (suc id) 0 (λ z. omega arith))
-          (value-follows 1 (standing Each id u) (suc id) i i (λ j. eachValue t s (length (t .kinds) - suc id) (suc (suc id)) j) rest (λ k. sections t flag s fT k) i
+          (value-follows 1 (standing Each id u) (suc id) i i (λ j. eachValue t how s (length (t .kinds) - suc id) (suc (suc id)) j) rest (λ k. sections t how s fT k) i
           (λ v j l g y. on 1 i _ (Write v (suc id)) (standing Each (suc id) u) j fL fS fT i l g (later e j (omega arith)) refl (record { low = omega arith; high = omega arith }, y) (λ z. omega arith)))
 
       none : Follows 1 i (scan 0) (found 0)
       none =
           record {
             place = 0;
-            rest = and-then (endMark esn s i) (λ k. sections t flag s fT k);
+            rest = and-then (endMark esn s i) (λ k. sections t how s fT k);
             scans = refl;
             left = record { fL = fL; fS = fS; fT = fT; enough = e; scans = refl; inside = w; stood = free };
             sound = tt;
@@ -389,7 +386,7 @@ module _ (t : Lists) (how : How) (s : List ℕ) where
             ahead = omega arith;
           }
 
-      by : (b : Bool) → ltb id (length (t .kinds)) ≡ b → Follows 1 i (scan (length (t .kinds) - id)) (onRead (cond b (read.Value (id + 1) i) (read.Value 0 i)) bad (λ d j. foundItem (t .kinds) s (standing Each id u) d j))
+      by : (b : Bool) → ltb id (length (t .kinds)) ≡ b → Follows 1 i (scan (length (t .kinds) - id)) (onRead (cond b (read.Value (id + 1) i) (read.Value 0 i)) bad (λ d j. foundItem (t .kinds) how s (standing Each id u) d j))
       by true q = let h = ltb-true id (length (t .kinds)) q in rw (one-more h, add-one id) (some h)
       by false q = let h = ltb-false id (length (t .kinds)) q in rw (none-left h) none
 
@@ -410,7 +407,7 @@ module _ (t : Lists) (how : How) (s : List ℕ) where
       subst (λ sc. Follows (rank (x .phase)) i sc (nextItem (t .kinds) how s x i)) (sym (l .scans)) (phase-follows (x .phase) (x .id) (x .time) i (l .fL) (l .fS) (l .fT) (l .inside) (l .enough))
 
   -- at the first mark all is left
-  pub left-all : Left (standing Mark 0 0) 0 (scanSections t flag s)
+  pub left-all : Left (standing Mark 0 0) 0 (scanSections t how s)
   unfolding scanSections scanFrom
   left-all =
       record { fL = length s; fS = length s; fT = length s; enough = record { lists = omega arith; cycles = omega arith; all = omega arith }; scans = refl; inside = omega arith; stood = free }

@@ -13,7 +13,7 @@ use Rattle.leb128.specs.Shortest.{fits, rest, groups}
 use Rattle.number_writer.specs.Little.{littleBytes, fixedBytes}
 use Rattle.states.specs.Letters.{mapped}
 use Rattle.tables.specs.Lists.{Lists, lists, nth, signals}
-use Rattle.values.specs.Value.{onRead, byteUpTo, value}
+use Rattle.values.specs.Value.{onRead, byteUpTo, narrow}
 use Rattle.changes.specs.Changes.{recordLength, written, writeRecord, inOrder, changeRecord, nextChange}
 use Rattle.sections_writer.specs.Writer.{timeBytes, timeGood, valueBytes, writeBytes, cycleEnd, closing, givenTime, givenWrite, given, one, writing, writeSections}
 
@@ -82,6 +82,6 @@ pub examples :
 unfolding
     writeSections writing one given givenTime givenWrite closing cycleEnd writeBytes valueBytes timeGood timeBytes
     nextChange changeRecord inOrder writeRecord written recordLength
-    onRead byteUpTo value nth signals mapped
+    onRead byteUpTo narrow nth signals mapped
     part big little bigBytes littleBytes fixedBytes fits rest groups
 examples = (refl, refl, refl, refl, refl, refl, refl, refl, refl, refl, refl, refl, refl, refl, refl, refl, refl)

@@ -9,12 +9,12 @@ use Rattle.value_readings.proofs.read_values.Statement.{statement}
 use Rattle.value_readings.proofs.read_values.Tie as tie
 
 abbrev Inv-loop : tie.InvT-loop
-Inv-loop b n s room₀ list₀ events₀ values₀ phase time id₀ at₀ g₀ room list events values id at g =
-    OnValues (tables b n) s phase time at₀ (memOf room₀ list₀ events₀ values₀) g₀ (memOf room list events values) g id at
+Inv-loop b n s room₀ list₀ events₀ values₀ how phase time id₀ at₀ g₀ room list events values id at g =
+    OnValues (tables b n) how s phase time at₀ (memOf room₀ list₀ events₀ values₀) g₀ (memOf room list events values) g id at
 
 abbrev μ-loop : tie.MeasureT-loop
-μ-loop b n s room₀ list₀ events₀ values₀ phase time id₀ at₀ g₀ room list events values id at g =
-    toValue (tables b n) s (memOf room list events values) g (standing phase id time) at
+μ-loop b n s room₀ list₀ events₀ values₀ how phase time id₀ at₀ g₀ room list events values id at g =
+    toValue (tables b n) how s (memOf room list events values) g (standing phase id time) at
 
 loop-holds : tie.Need-loop-holds Inv-loop μ-loop
 loop-holds c = search (values-laws, needs)
@@ -62,7 +62,7 @@ same-length-4 : tie.Need-same-length-4 Inv-loop μ-loop
 same-length-4 c = search (values-laws, needs)
 
 returns : tie.Need-returns Inv-loop μ-loop
-returns c = on-over (c .before .before .before .before .before .before .before .before .before .before .before .before .before .before .before .before .before .before .before .before .before .before .before .before .pre) (c .before .before .before .before .before .before .before .before .before .before .before .before .before .before .before .before .before .loop .inv) (c .before .before .before .before .before .before .before .before .before .before .before .before .before .before .before .before .standing .ensures) (c .before .before .before .before .before .before .before .before .before .before .before .one-value .ensures) (search needs) (c .next-step .ensures)
+returns c = on-over (c .before .before .before .before .before .before .before .before .before .before .before .before .before .before .before .before .before .before .before .before .before .before .before .before .before .before .pre) (c .before .before .before .before .before .before .before .before .before .before .before .before .before .before .before .before .before .loop .inv) (c .before .before .before .before .before .before .before .before .before .before .before .before .before .before .before .before .standing .ensures) (c .before .before .before .before .before .before .before .before .before .before .before .one-value .ensures) (search needs) (c .next-step .ensures)
 
 enum-told-4 : tie.Need-enum-told-4 Inv-loop μ-loop
 enum-told-4 c = search (values-laws, needs)
@@ -80,7 +80,7 @@ same-length-8 : tie.Need-same-length-8 Inv-loop μ-loop
 same-length-8 c = search (values-laws, needs)
 
 returns-2 : tie.Need-returns-2 Inv-loop μ-loop
-returns-2 c = on-out (c .before .before .before .before .before .before .before .before .before .before .before .before .before .before .before .before .before .before .before .before .before .before .before .pre) (c .before .before .before .before .before .before .before .before .before .before .before .before .before .before .before .before .loop .inv) (c .before .before .before .before .before .before .before .before .before .before .before .before .before .before .before .standing .ensures) (c .before .before .before .before .before .before .before .before .before .before .one-value .ensures) (search needs)
+returns-2 c = on-out (c .before .before .before .before .before .before .before .before .before .before .before .before .before .before .before .before .before .before .before .before .before .before .before .before .before .pre) (c .before .before .before .before .before .before .before .before .before .before .before .before .before .before .before .before .loop .inv) (c .before .before .before .before .before .before .before .before .before .before .before .before .before .before .before .standing .ensures) (c .before .before .before .before .before .before .before .before .before .before .one-value .ensures) (search needs)
 
 pub read-values-spec : {M : Type 1} → statement M
 read-values-spec =

@@ -9,7 +9,7 @@ use lib.ListN.{length}
 use Rattle.tables.specs.Lists.{Lists}
 use Rattle.rules.specs.Scan.{Scan, done}
 use Rattle.gather.specs.Memory.{Mem}
-use Rattle.section_heads.specs.declared.How.{How}
+use Rattle.values.specs.declared.How.{How}
 use Rattle.section_heads.specs.declared.Stand.{Stand}
 use Rattle.section_heads.specs.declared.Said.{Said}
 use Rattle.section_heads.specs.declared.Said.the-variants.{Nothing, Time, Write, StepEnd, Over, Bad}
@@ -34,20 +34,17 @@ write-then x StepEnd y v e = absurd (false≢true e)
 write-then x Over y v e = absurd v
 write-then x (Bad n) y v e = absurd (false≢true e)
 
-module _ {t : Lists} {s : List ℕ} {m : Mem} {c : Gathered} {x : Stand} {i : ℕ} (q : PlaceAsks t s m c x i) where
+module _ {t : Lists} {how : How} {s : List ℕ} {m : Mem} {c : Gathered} {x : Stand} {i : ℕ} (q : PlaceAsks t how s m c x i) where
   abbrev y : Item
-  y = valueItem (t .kinds) s x i
-
-  abbrev any : How
-  any = record { «big_endian» = false }
+  y = valueItem (t .kinds) how s x i
 
   abbrev all : Scan
-  all = scanFrom t any s (length s) (length s) (length s) (x .phase) (x .id) (x .time) i
+  all = scanFrom t how s (length s) (length s) (length s) (x .phase) (x .id) (x .time) i
 
-  here : Left t any s x i all
-  here = left-some t any s x i (q .inside) (λ _. q .stood)
+  here : Left t how s x i all
+  here = left-some t how s x i (q .inside) (λ _. q .stood)
 
-  pub asks-act : ActAsks t m c (valueItem (t .kinds) s x i)
+  pub asks-act : ActAsks t m c (valueItem (t .kinds) how s x i)
   asks-act =
       record {
         tabled = q .tabled;
@@ -60,12 +57,12 @@ module _ {t : Lists} {s : List ℕ} {m : Mem} {c : Gathered} {x : Stand} {i : �
 
   module _ {m' : Mem} where
     -- the item is done
-    module _ {at id : ℕ} {g : Gathered} (f : Done t s m c (valueItem (t .kinds) s x i) m' (goesOn at id g)) where
+    module _ {at id : ℕ} {g : Gathered} (f : Done t s m c (valueItem (t .kinds) how s x i) m' (goesOn at id g)) where
       abbrev x' : Stand
       x' = standing (x .phase) id (x .time)
 
       stands : (y .then .phase ≡ x .phase) × (y .then .time ≡ x .time)
-      stands = write-then x (y .said) (y .then) (value-says (t .kinds) s x i) (f .wrote)
+      stands = write-then x (y .said) (y .then) (value-says (t .kinds) how s x i) (f .wrote)
 
       there : standing (y .then .phase) id (y .then .time) ≡ standing (x .phase) id (x .time)
       there = λ j. record { phase = stands .0 j; id = id; time = stands .1 j }
@@ -76,19 +73,19 @@ module _ {t : Lists} {s : List ℕ} {m : Mem} {c : Gathered} {x : Stand} {i : �
           let e : rank (y .then .phase) ≡ rank (x .phase) = ap rank (stands .0) in
           omega (arith, value-ahead here (q .values) (write-act (y .said) (f .wrote)), e, f .ahead)
 
-      done-goes : Goes t s m c x i m' g (standing (x .phase) id (x .time)) at
+      done-goes : Goes t how s m c x i m' g (standing (x .phase) id (x .time)) at
       done-goes =
           record {
             ahead = omega (arith, nearer);
-            moves = λ how.
+            moves =
                 subst (λ (z : Stand). Moves t m c (Left t how s x i) m' g (Left t how s z at)) there
                 (done-moves (λ sc l. value-said l (q .values)) f (λ sc l. left-behind (q .tabled) how l (f .behind)));
           }
 
-      done-asks : PlaceAsks t s m' g (standing (x .phase) id (x .time)) at
+      done-asks : PlaceAsks t how s m' g (standing (x .phase) id (x .time)) at
       done-asks =
           let h = f .leads 0 (done 0) .leads (q .rooms) (q .state) (q .output) (q .holds) in
-          let l = done-goes .moves any .moves all here .1 in
+          let l = done-goes .moves .moves all here .1 in
           record {
             tabled = q .tabled;
             rooms = q .rooms;
@@ -101,12 +98,12 @@ module _ {t : Lists} {s : List ℕ} {m : Mem} {c : Gathered} {x : Stand} {i : �
             begun = λ z. f .begun;
           }
 
-      pub done-on : Goes t s m c x i m' g (standing (x .phase) id (x .time)) at × PlaceAsks t s m' g (standing (x .phase) id (x .time)) at × (toValue t s m' g (standing (x .phase) id (x .time)) at < toValue t s m c x i)
-      done-on = (done-goes, done-asks, on-less (done-asks .holds) nearer (saidAt t s x' at) (m .room) c (saidAt t s x i))
+      pub done-on : Goes t how s m c x i m' g (standing (x .phase) id (x .time)) at × PlaceAsks t how s m' g (standing (x .phase) id (x .time)) at × (toValue t how s m' g (standing (x .phase) id (x .time)) at < toValue t how s m c x i)
+      done-on = (done-goes, done-asks, on-less (done-asks .holds) nearer (saidAt t how s x' at) (m .room) c (saidAt t how s x i))
 
     -- it is still to be done
-    module _ {g : Gathered} (f : Stays t m c (valueItem (t .kinds) s x i) m' g) where
-      stay-asks : PlaceAsks t s m' g x i
+    module _ {g : Gathered} (f : Stays t m c (valueItem (t .kinds) how s x i) m' g) where
+      stay-asks : PlaceAsks t how s m' g x i
       stay-asks =
           let h = f .waits .leads 0 0 (done 0) .leads (q .rooms) (q .state) (q .output) (q .holds) in
           record {
@@ -121,19 +118,19 @@ module _ {t : Lists} {s : List ℕ} {m : Mem} {c : Gathered} {x : Stand} {i : �
             begun = f .waits .begun;
           }
 
-      pub stay-on : Goes t s m c x i m' g x i × PlaceAsks t s m' g x i × (toValue t s m' g x i < toValue t s m c x i)
-      stay-on = (record { ahead = omega arith; moves = λ how. stays-moves (λ sc l. value-said l (q .values)) f }, stay-asks, stay-less f (toRead s x i))
+      pub stay-on : Goes t how s m c x i m' g x i × PlaceAsks t how s m' g x i × (toValue t how s m' g x i < toValue t how s m c x i)
+      stay-on = (record { ahead = omega arith; moves = stays-moves (λ sc l. value-said l (q .values)) f }, stay-asks, stay-less f (toRead s x i))
 
     -- the step is over
-    pub closes-on : {g : Gathered} {p : ℕ} → Closes t m c (valueItem (t .kinds) s x i) m' g p → Goes t s m c x i m' (nextStep g) (standing (afterValues (x .phase)) 0 (x .time)) p
+    pub closes-on : {g : Gathered} {p : ℕ} → Closes t m c (valueItem (t .kinds) how s x i) m' g p → Goes t how s m c x i m' (nextStep g) (standing (afterValues (x .phase)) 0 (x .time)) p
     closes-on {g} {p} f =
-        let z : y .then ≡ standing (afterValues (x .phase)) 0 (x .time) = subst (λ (a : Said). ValueBy x a (y .then)) (f .ends) (value-says (t .kinds) s x i) in
+        let z : y .then ≡ standing (afterValues (x .phase)) 0 (x .time) = subst (λ (a : Said). ValueBy x a (y .then)) (f .ends) (value-says (t .kinds) how s x i) in
         record {
           ahead = omega (arith, value-ahead here (q .values) (ap isAct (f .ends)), ap (λ (v : Stand). toRead s v (y .at)) z, ap (λ (j : ℕ). toRead s (standing (afterValues (x .phase)) 0 (x .time)) j) (f .place));
-          moves = λ how.
+          moves =
               subst (λ (j : ℕ). Moves t m c (Left t how s x i) m' (nextStep g) (Left t how s (standing (afterValues (x .phase)) 0 (x .time)) j)) (sym (f .place))
               (subst (λ (v : Stand). Moves t m c (Left t how s x i) m' (nextStep g) (Left t how s v (y .at))) z (closes-moves (λ sc l. value-said l (q .values)) f));
         }
 
-  pub refusal-out : {n p : ℕ} → Refusal t m c (valueItem (t .kinds) s x i) n p → (how : How) → Refuses t m c (Left t how s x i) n p
-  refusal-out f how = refused-refuses (λ sc l. value-said l (q .values)) f
+  pub refusal-out : {n p : ℕ} → Refusal t m c (valueItem (t .kinds) how s x i) n p → Refuses t m c (Left t how s x i) n p
+  refusal-out f = refused-refuses (λ sc l. value-said l (q .values)) f

@@ -11,8 +11,11 @@ field-at-requires c κs = search (real-laws, needs)
 enum-known-next : tie.Need-enum-known-next
 enum-known-next c = search (real-laws, needs)
 
-read-f64-le-requires : tie.Need-read-f64-le-requires
-read-f64-le-requires c κs = search (real-laws, needs)
+big-real-requires : tie.Need-big-real-requires
+big-real-requires c κs = search (real-laws, needs)
+
+read-i64-requires : tie.Need-read-i64-requires
+read-i64-requires c κs = search (real-laws, needs)
 
 enum-told : tie.Need-enum-told
 enum-told c = search (real-laws, needs)
@@ -26,4 +29,11 @@ returns-2 c = search (real-laws, needs)
 pub read-real-spec : {M : Type 1} → statement M
 read-real-spec =
     tie.close
-    (tie.spec field-at-requires enum-known-next read-f64-le-requires enum-told returns returns-2)
+    (tie.spec
+    field-at-requires
+    enum-known-next
+    big-real-requires
+    read-i64-requires
+    enum-told
+    returns
+    returns-2)

@@ -2,10 +2,10 @@
 -- Assumes nothing.
 use mathlib.Core.Path.{_≡_, sym, ap, subst, _∙_}
 use Prim.Native.Nat.{ℕ, _+_, _^_, _≤_, _<_}
-use mathlib.Core.Bool.{cond}
+use mathlib.Core.Bool.{Bool, true, false, cond}
 use mathlib.Core.List.{List}
 use native.Mathlib.Omega.{arith}
-use borrow.Author.Tests.{le-leb, lt-leb, eq-eqb, ne-eqb, leb-true, leb-false, eqb-false}
+use borrow.Author.Tests.{le-leb, lt-leb, eq-eqb, ne-eqb, leb-true, leb-false}
 use lib.ListN.{length, getD}
 use lib.Dec.{leb, eqb}
 use Rattle.slices.specs.Choice.{cond-ind}
@@ -13,16 +13,17 @@ use Rattle.slices.specs.Field.{fieldOf, field-next, field-short}
 use Rattle.slices.specs.declared.Field.{Field}
 use Rattle.slices.specs.declared.Field.the-variants.{Next, Short}
 use Rattle.slices.specs.Splice.{part}
-use Rattle.numbers.specs.Fixed.{little}
+use Rattle.numbers.specs.Fixed.{fixed}
 use Rattle.leb128.specs.Leb128.{readUnsigned, readSigned}
 use Rattle.leb128.specs.Leb128.Laws.{leb-within, Within}
 use Rattle.leb128.specs.declared.Leb.{Leb}
 use Rattle.leb128.specs.declared.Leb.the-variants as leb128
 use Rattle.states.specs.Letters.{mapped}
 use Rattle.states.specs.Letters.Laws.{mapped-most}
+use Rattle.values.specs.declared.How.{How}
 use Rattle.values.specs.declared.Read.{Read}
 use Rattle.values.specs.declared.Read.the-variants.{Value, Bad}
-use Rattle.values.specs.Value.{number, unsigned, signed, byteUpTo, real, value, mostOf, Suits}
+use Rattle.values.specs.Value.{number, unsigned, signed, byteUpTo, bigReal, real, narrow, value, mostOf, Suits}
 
 -- ---- what the readers find
 
@@ -65,43 +66,55 @@ module _ (most : ℕ) (map : ℕ → ℕ) (s : List ℕ) (i : ℕ) where
 pub nine-found : (s : List ℕ) (i : ℕ) → i < length s → getD s i 0 ≤ 8 → (m v : ℕ) → m ≡ mapped (getD s i 0) → v ≡ m → Value v (i + 1) ≡ byteUpTo 8 mapped s i
 nine-found s i h b m v e f = byte-found 8 mapped s i h b v (f ∙ e)
 
-module _ (s : List ℕ) (i : ℕ) {f : Field} (e : f ≡ fieldOf 8 s i) where
-  pub real-found : {j : ℕ} → f ≡ Next j → (v : ℕ) → v ≡ little (part s i 8) → Value v j ≡ real s i
-  unfolding real
-  real-found d v p = let n = field-next 8 s i e d in rw (le-leb (i + 8) (length s) (n .1), n .0, p)
+module _ (how : How) where
+  pub real-by-flag : how .«reals_by_flag» ≡ true → how .«big_endian» ≡ bigReal how
+  real-by-flag e = rw e
 
-  pub real-none : f ≡ Short → Bad 7 i ≡ real s i
+  pub real-little : how .«reals_by_flag» ≡ false → false ≡ bigReal how
+  real-little e = rw e
+
+module _ (how : How) (s : List ℕ) (i : ℕ) {f : Field} (e : f ≡ fieldOf 8 s i) where
+  pub real-found : {j : ℕ} → f ≡ Next j → {b : Bool} → b ≡ bigReal how → (v : ℕ) → v ≡ fixed b (part s i 8)
+      → Value v j ≡ real how s i
+  unfolding real
+  real-found d q v p = let n = field-next 8 s i e d in rw (le-leb (i + 8) (length s) (n .1), n .0, p, q)
+
+  pub real-none : f ≡ Short → Bad 7 i ≡ real how s i
   unfolding real
   real-none d = rw (lt-leb (i + 8) (length s) (field-short 8 s i e d))
 
-  pub real-inside : {j : ℕ} → f ≡ Next j → i + 8 ≤ length s
-  real-inside d = field-next 8 s i e d .1
+pub real-inside : (s : List ℕ) (i : ℕ) {f : Field} → f ≡ fieldOf 8 s i → {j : ℕ} → f ≡ Next j → i + 8 ≤ length s
+real-inside s i e d = field-next 8 s i e d .1
 
 -- by the kind
-wide-is : (kind : ℕ) (s : List ℕ) (i : ℕ) → 4 < kind → value kind s i ≡ cond (eqb kind 5) (signed s i) (real s i)
-unfolding value
-wide-is kind s i h = let z : kind ≡ 4 → ⊥ = λ e. omega arith in rw (lt-leb kind 1 (omega arith), lt-leb kind 3 (omega arith), ne-eqb kind 4 z)
-
 module _ (kind : ℕ) (s : List ℕ) (i : ℕ) {r : Read} where
-  pub value-nine : kind ≤ 1 → r ≡ byteUpTo 8 mapped s i → r ≡ value kind s i
-  unfolding value
-  value-nine h e = e ∙ rw (le-leb kind 1 h)
+  pub narrow-nine : kind ≤ 1 → r ≡ byteUpTo 8 mapped s i → r ≡ narrow kind s i
+  unfolding narrow
+  narrow-nine h e = e ∙ rw (le-leb kind 1 h)
 
   module _ (h : 1 < kind) where
-    pub value-two : kind ≤ 3 → r ≡ byteUpTo 1 (λ b. b) s i → r ≡ value kind s i
-    unfolding value
-    value-two l e = e ∙ rw (lt-leb kind 1 h, le-leb kind 3 l)
+    pub narrow-two : kind ≤ 3 → r ≡ byteUpTo 1 (λ b. b) s i → r ≡ narrow kind s i
+    unfolding narrow
+    narrow-two l e = e ∙ rw (lt-leb kind 1 h, le-leb kind 3 l)
 
-    pub value-byte : 3 < kind → kind ≤ 4 → r ≡ byteUpTo 255 (λ b. b) s i → r ≡ value kind s i
-    unfolding value
-    value-byte l k e = let z : kind ≡ 4 = omega arith in e ∙ rw (lt-leb kind 1 h, lt-leb kind 3 l, eq-eqb kind 4 z)
+    pub narrow-byte : 3 < kind → r ≡ byteUpTo 255 (λ b. b) s i → r ≡ narrow kind s i
+    unfolding narrow
+    narrow-byte l e = e ∙ rw (lt-leb kind 1 h, lt-leb kind 3 l)
+
+module _ (how : How) (kind : ℕ) (s : List ℕ) (i : ℕ) {r : Read} where
+  -- kinds 0 to 4 are read alike in every manner
+  pub value-narrow : kind ≤ 4 → r ≡ narrow kind s i → r ≡ value how kind s i
+  unfolding value
+  value-narrow h e = e ∙ rw (le-leb kind 4 h)
 
   module _ (h : 4 < kind) where
-    pub value-integer : kind ≡ 5 → r ≡ signed s i → r ≡ value kind s i
-    value-integer j e = e ∙ rw (wide-is kind s i h, eq-eqb kind 5 j)
+    pub value-integer : kind ≡ 5 → r ≡ signed s i → r ≡ value how kind s i
+    unfolding value
+    value-integer j e = e ∙ rw (lt-leb kind 4 h, eq-eqb kind 5 j)
 
-    pub value-real : (kind ≡ 5 → ⊥) → r ≡ real s i → r ≡ value kind s i
-    value-real j e = e ∙ rw (wide-is kind s i h, ne-eqb kind 5 j)
+    pub value-real : (kind ≡ 5 → ⊥) → r ≡ real how s i → r ≡ value how kind s i
+    unfolding value
+    value-real j e = e ∙ rw (lt-leb kind 4 h, ne-eqb kind 5 j)
 
 -- ---- where what was found ends
 
@@ -131,17 +144,21 @@ byte-ahead most map s i =
     (λ t. cond-ind (leb (getD s i 0) most) _ _ (Ahead s i) (λ u. let h = leb-true (i + 1) (length s) t in omega arith) (λ u. tt))
     (λ t. tt)
 
-real-ahead : (s : List ℕ) (i : ℕ) → Ahead s i (real s i)
+real-ahead : (how : How) (s : List ℕ) (i : ℕ) → Ahead s i (real how s i)
 unfolding real
-real-ahead s i = cond-ind (leb (i + 8) (length s)) _ _ (Ahead s i) (λ t. let h = leb-true (i + 8) (length s) t in omega arith) (λ t. tt)
+real-ahead how s i = cond-ind (leb (i + 8) (length s)) _ _ (Ahead s i) (λ t. let h = leb-true (i + 8) (length s) t in omega arith) (λ t. tt)
 
-pub value-ahead : (kind : ℕ) (s : List ℕ) (i : ℕ) → Ahead s i (value kind s i)
-unfolding value
-value-ahead kind s i =
+pub narrow-ahead : (kind : ℕ) (s : List ℕ) (i : ℕ) → Ahead s i (narrow kind s i)
+unfolding narrow
+narrow-ahead kind s i =
     cond-ind (leb kind 1) _ _ (Ahead s i) (λ t. byte-ahead _ _ s i)
-    (λ t. cond-ind (leb kind 3) _ _ (Ahead s i) (λ u. byte-ahead _ _ s i)
-    (λ u. cond-ind (eqb kind 4) _ _ (Ahead s i) (λ w. byte-ahead _ _ s i)
-    (λ w. cond-ind (eqb kind 5) _ _ (Ahead s i) (λ x. signed-ahead s i) (λ x. real-ahead s i))))
+    (λ t. cond-ind (leb kind 3) _ _ (Ahead s i) (λ u. byte-ahead _ _ s i) (λ u. byte-ahead _ _ s i))
+
+pub value-ahead : (how : How) (kind : ℕ) (s : List ℕ) (i : ℕ) → Ahead s i (value how kind s i)
+unfolding value
+value-ahead how kind s i =
+    cond-ind (leb kind 4) _ _ (Ahead s i) (λ t. narrow-ahead kind s i)
+    (λ t. cond-ind (eqb kind 5) _ _ (Ahead s i) (λ u. signed-ahead s i) (λ u. real-ahead how s i))
 
 -- ---- what was found suits the kind
 
@@ -168,30 +185,43 @@ wide-suits : (kind : ℕ) (r : Read) → 4 < kind → SuitsRead kind r
 wide-suits kind (Value v next) l = λ h. absurd (omega arith)
 wide-suits kind (Bad n p) l = tt
 
-value-suits-read : (kind : ℕ) (s : List ℕ) (i : ℕ) → SuitsRead kind (value kind s i)
-unfolding value mostOf
-value-suits-read kind s i =
+narrow-suits-read : (kind : ℕ) (s : List ℕ) (i : ℕ) → SuitsRead kind (narrow kind s i)
+unfolding narrow mostOf
+narrow-suits-read kind s i =
     cond-ind (leb kind 1) _ _ (SuitsRead kind)
     (λ t. most-suits kind (byteUpTo 8 mapped s i) (rw t (byte-most 8 8 mapped s i mapped-most)))
     (λ t. cond-ind (leb kind 3) _ _ (SuitsRead kind)
     (λ u. most-suits kind (byteUpTo 1 (λ b. b) s i) (rw (t, u) (byte-most 1 1 (λ b. b) s i (λ b h. h))))
-    (λ u. cond-ind (eqb kind 4) _ _ (SuitsRead kind)
-    (λ w. most-suits kind (byteUpTo 255 (λ b. b) s i) (rw (t, u) (byte-most 255 255 (λ b. b) s i (λ b h. h))))
-    (λ w.
-    let g : 3 < kind = leb-false kind 3 u in
-    let n : kind ≡ 4 → ⊥ = eqb-false kind 4 w in
-    wide-suits kind (cond (eqb kind 5) (signed s i) (real s i)) (omega arith))))
+    (λ u. most-suits kind (byteUpTo 255 (λ b. b) s i) (rw (t, u) (byte-most 255 255 (λ b. b) s i (λ b h. h)))))
 
-pub value-suits : (kind : ℕ) (s : List ℕ) (i : ℕ) {r : Read} → r ≡ value kind s i → {v j : ℕ} → r ≡ Value v j → Suits kind v
-value-suits kind s i e d = subst (SuitsRead kind) (sym e ∙ d) (value-suits-read kind s i)
+value-suits-read : (how : How) (kind : ℕ) (s : List ℕ) (i : ℕ) → SuitsRead kind (value how kind s i)
+unfolding value
+value-suits-read how kind s i =
+    cond-ind (leb kind 4) _ _ (SuitsRead kind) (λ t. narrow-suits-read kind s i)
+    (λ t. wide-suits kind (cond (eqb kind 5) (signed s i) (real how s i)) (leb-false kind 4 t))
 
-pub value-next : (kind : ℕ) (s : List ℕ) (i : ℕ) {r : Read} → r ≡ value kind s i → {v j : ℕ} → r ≡ Value v j → (i < j) × (j ≤ length s)
-value-next kind s i e d = subst (Ahead s i) (sym e ∙ d) (value-ahead kind s i)
+module _ (kind : ℕ) (s : List ℕ) (i : ℕ) {r : Read} (e : r ≡ narrow kind s i) {v j : ℕ} (d : r ≡ Value v j) where
+  pub narrow-suits : Suits kind v
+  narrow-suits = subst (SuitsRead kind) (sym e ∙ d) (narrow-suits-read kind s i)
+
+  pub narrow-next : (i < j) × (j ≤ length s)
+  narrow-next = subst (Ahead s i) (sym e ∙ d) (narrow-ahead kind s i)
+
+module _ (how : How) (kind : ℕ) (s : List ℕ) (i : ℕ) {r : Read} (e : r ≡ value how kind s i) {v j : ℕ} (d : r ≡ Value v j) where
+  pub value-suits : Suits kind v
+  value-suits = subst (SuitsRead kind) (sym e ∙ d) (value-suits-read how kind s i)
+
+  pub value-next : (i < j) × (j ≤ length s)
+  value-next = subst (Ahead s i) (sym e ∙ d) (value-ahead how kind s i)
 
 pub ruleset number-laws = (number-value, number-short, number-large, unsigned-is, signed-is)
 
-pub ruleset value-laws = (value-nine, value-two, value-byte, value-integer, value-real)
+pub ruleset narrow-laws = (narrow-nine, narrow-two, narrow-byte)
+
+pub ruleset value-laws = (value-narrow, value-integer, value-real)
 
 pub ruleset byte-laws = (byte-none, byte-found, nine-found, byte-over)
+
+pub ruleset flag-laws = (real-by-flag, real-little)
 
 pub ruleset real-laws = (real-found, real-none, real-inside)

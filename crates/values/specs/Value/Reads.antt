@@ -3,15 +3,15 @@
 use Prim.Native.Nat.{ℕ, _+_, _≤_}
 use mathlib.Core.List.{List}
 use native.Mathlib.Omega.{arith}
-use borrow.Author.Tests.{leb-false, eqb-false}
 use lib.ListN.{length, getD}
 use lib.Dec.{leb, eqb}
 use Rattle.slices.specs.Choice.{cond-ind}
 use Rattle.leb128.specs.declared.Leb.{Leb}
 use Rattle.leb128.specs.declared.Leb.the-variants as leb
+use Rattle.values.specs.declared.How.{How}
 use Rattle.values.specs.declared.Read.{Read}
 use Rattle.values.specs.declared.Read.the-variants.{Value, Bad}
-use Rattle.values.specs.Value.{number, unsigned, signed, byteUpTo, real, value}
+use Rattle.values.specs.Value.{number, unsigned, signed, byteUpTo, real, narrow, value}
 
 -- up to a place of which `to` holds, or refused with a number that a section's bytes can give
 unfoldable pub Reads : (ℕ → Type 0) → Read → Type 0
@@ -25,12 +25,11 @@ module _ (to : ℕ → Type 0) where
       cond-ind (leb (i + 1) (length s)) _ _ (Reads to) (λ a. cond-ind (leb (getD s i 0) most) _ _ (Reads to) (λ b. h) (λ b. (omega arith, omega arith))) (λ a. (omega arith, omega arith))
 
   -- "kinds 0 and 1 one byte ..; kinds 2 and 3 one byte ..; kind 4 any byte"
-  pub byte-value-reads : (kind : ℕ) (s : List ℕ) (i : ℕ) → kind ≤ 4 → to (i + 1) → Reads to (value kind s i)
-  unfolding value
-  byte-value-reads kind s i k h =
+  pub narrow-reads : (kind : ℕ) (s : List ℕ) (i : ℕ) → to (i + 1) → Reads to (narrow kind s i)
+  unfolding narrow
+  narrow-reads kind s i h =
       cond-ind (leb kind 1) _ _ (Reads to) (λ a. byte-reads 8 _ s i h)
-      (λ a. cond-ind (leb kind 3) _ _ (Reads to) (λ b. byte-reads 1 _ s i h)
-      (λ b. cond-ind (eqb kind 4) _ _ (Reads to) (λ c. byte-reads 255 _ s i h) (λ c. absurd (omega (arith, leb-false kind 3 b, eqb-false kind 4 c)))))
+      (λ a. cond-ind (leb kind 3) _ _ (Reads to) (λ b. byte-reads 1 _ s i h) (λ b. byte-reads 255 _ s i h))
 
 abbrev Anywhere : ℕ → Type 0
 Anywhere i = Unit {0}
@@ -49,14 +48,12 @@ pub signed-reads : (s : List ℕ) (i : ℕ) → Reads Anywhere (signed s i)
 unfolding signed
 signed-reads s i = number-reads i _
 
-real-reads : (s : List ℕ) (i : ℕ) → Reads Anywhere (real s i)
+real-reads : (how : How) (s : List ℕ) (i : ℕ) → Reads Anywhere (real how s i)
 unfolding Reads real
-real-reads s i = cond-ind (leb (i + 8) (length s)) _ _ (Reads Anywhere) (λ a. tt) (λ a. (omega arith, omega arith))
+real-reads how s i = cond-ind (leb (i + 8) (length s)) _ _ (Reads Anywhere) (λ a. tt) (λ a. (omega arith, omega arith))
 
-pub value-reads : (kind : ℕ) (s : List ℕ) (i : ℕ) → Reads Anywhere (value kind s i)
+pub value-reads : (how : How) (kind : ℕ) (s : List ℕ) (i : ℕ) → Reads Anywhere (value how kind s i)
 unfolding value
-value-reads kind s i =
-    cond-ind (leb kind 1) _ _ (Reads Anywhere) (λ a. byte-reads Anywhere 8 _ s i tt)
-    (λ a. cond-ind (leb kind 3) _ _ (Reads Anywhere) (λ b. byte-reads Anywhere 1 _ s i tt)
-    (λ b. cond-ind (eqb kind 4) _ _ (Reads Anywhere) (λ c. byte-reads Anywhere 255 _ s i tt)
-    (λ c. cond-ind (eqb kind 5) _ _ (Reads Anywhere) (λ d. signed-reads s i) (λ d. real-reads s i))))
+value-reads how kind s i =
+    cond-ind (leb kind 4) _ _ (Reads Anywhere) (λ a. narrow-reads Anywhere kind s i tt)
+    (λ a. cond-ind (eqb kind 5) _ _ (Reads Anywhere) (λ b. signed-reads s i) (λ b. real-reads how s i))

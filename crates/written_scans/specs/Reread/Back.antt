@@ -13,8 +13,9 @@ use Rattle.slices.specs.Choice.{cond-ind}
 use Rattle.numbers.specs.Fixed.Laws.{Bytes}
 use Rattle.numbers.specs.Marks.{cyc, ecy, tai}
 use Rattle.tables.specs.Lists.{Lists, nth, signals}
+use Rattle.values.specs.declared.How.{How}
 use Rattle.values.specs.declared.Read.the-variants.{Value}
-use Rattle.values.specs.Value.{value}
+use Rattle.values.specs.Value.{ordinary, value}
 use Rattle.rules.specs.Gather.{time, write, stepEnd}
 use Rattle.rules.specs.Scan.{Scan, say, done, and-then}
 use Rattle.changes.specs.declared.Change.{Change}
@@ -46,6 +47,9 @@ opposite p q = let z : _≡_ {A = ℕ} 0 1 = (let e : true ≡ false = sym p ∙
 -- ---- a record that was written
 
 module _ (t : Lists) (flag : Bool) (s : List ℕ) (room read : ℕ) (bs : List ℕ) (n : ℕ) where
+  abbrev how : How
+  how = ordinary flag
+
   abbrev pub Put : Pen → List ℕ → Given → (Pen → List ℕ → ℕ → Ended) → Type 0
   Put p out (goes b q j) more = more q (out ++ b) j ≡ wrote read bs n
   Put p out (ends b j) more = bs ≡ out ++ b
@@ -70,13 +74,13 @@ module _ (t : Lists) (flag : Bool) (s : List ℕ) (room read : ℕ) (bs : List �
   -- inside a step, and between two
   abbrev inScan : (fL fS fT u id at : ℕ) → Scan
   inScan fL fS fT u id at =
-      and-then (and-then (changeList t bs fL id at) (λ j. say stepEnd j (oneStep t flag bs (nextTime bs u j) (λ u′ e. steps t flag bs fS u′ e)))) (λ k. sections t flag bs fT k)
+      and-then (and-then (changeList t how bs fL id at) (λ j. say stepEnd j (oneStep t how bs (nextTime bs u j) (λ u′ e. steps t how bs fS u′ e)))) (λ k. sections t how bs fT k)
 
   abbrev betweenScan : (fS fT u at : ℕ) → Scan
-  betweenScan fS fT u at = and-then (oneStep t flag bs (nextTime bs u at) (λ u′ e. steps t flag bs fS u′ e)) (λ k. sections t flag bs fT k)
+  betweenScan fS fT u at = and-then (oneStep t how bs (nextTime bs u at) (λ u′ e. steps t how bs fS u′ e)) (λ k. sections t how bs fT k)
 
   record Scans (p : Pen) (at : ℕ) (sc : Scan) : Type 0 where
-    first : p .inside ≡ false → p .steps ≡ 0 → at ≡ 0 → bare (sections t flag bs (length bs) 0) ≡ bare sc
+    first : p .inside ≡ false → p .steps ≡ 0 → at ≡ 0 → bare (sections t how bs (length bs) 0) ≡ bare sc
     between : p .inside ≡ false → 1 ≤ p .steps → (fS fT : ℕ) → length bs ≤ at + fS → length bs ≤ at + fT → bare (betweenScan fS fT (p .time) at) ≡ bare sc
     within : p .inside ≡ true → 1 ≤ p .steps → (fL fS fT : ℕ) → length bs ≤ at + fL → length bs ≤ at + fS → length bs ≤ at + fT → bare (inScan fL fS fT (p .time) (p .id) at) ≡ bare sc
 
@@ -92,7 +96,7 @@ module _ (t : Lists) (flag : Bool) (s : List ℕ) (room read : ℕ) (bs : List �
 
     module _ (u : ℕ) (f : u < 2 ^ 64) (o : p .inside ≡ false) (sc : Scan) (j : ℕ) where
       opens-first : (more : List ℕ) → bs ≡ (out ++ timeBytes flag p u) ++ more → Scans (timed p u) (length (out ++ timeBytes flag p u)) sc
-          → p .steps ≡ 0 → length out ≡ 0 → bare (sections t flag bs (length bs) 0) ≡ bare (say (time u) j sc)
+          → p .steps ≡ 0 → length out ≡ 0 → bare (sections t how bs (length bs) 0) ≡ bare (say (time u) j sc)
       unfolding timeBytes bare bareAct steps
       opens-first more e c z l = go (length bs) refl
         where
@@ -111,18 +115,18 @@ module _ (t : Lists) (flag : Bool) (s : List ℕ) (room read : ℕ) (bs : List �
           c' : Scans (timed p u) 12 sc
           c' = subst (λ (k : ℕ). Scans (timed p u) k sc) place c
 
-          stepped' : (g f : ℕ) → length bs ≡ suc g → length bs ≡ suc f → bare (and-then (steps t flag bs (suc g) u 12) (λ k. sections t flag bs f k)) ≡ bare sc
+          stepped' : (g f : ℕ) → length bs ≡ suc g → length bs ≡ suc f → bare (and-then (steps t how bs (suc g) u 12) (λ k. sections t how bs f k)) ≡ bare sc
           stepped' g f q r = c' .within refl (omega arith) (length bs) g f (omega arith) (omega arith) (omega arith)
 
-          go : (m : ℕ) → length bs ≡ m → bare (sections t flag bs m 0) ≡ bare (say (time u) j sc)
+          go : (m : ℕ) → length bs ≡ m → bare (sections t how bs m 0) ≡ bare (say (time u) j sc)
           go zero q = absurd (omega (arith, long))
-          go (suc g) q = ap bare (cycle-opens t flag bs 0 u g f here) ∙ ap (say (time u) 0) (ap (λ (m : ℕ). bare (and-then (steps t flag bs m u 12) (λ k. sections t flag bs g k))) q ∙ stepped' g g q q)
+          go (suc g) q = ap bare (cycle-opens t flag bs 0 u g f here) ∙ ap (say (time u) 0) (ap (λ (m : ℕ). bare (and-then (steps t how bs m u 12) (λ k. sections t how bs g k))) q ∙ stepped' g g q q)
 
       opens-later : (more : List ℕ) → bs ≡ (out ++ timeBytes flag p u) ++ more → Scans (timed p u) (length (out ++ timeBytes flag p u)) sc
           → 1 ≤ p .steps → p .time ≤ u → u - p .time < 2 ^ 63 → (fS fT : ℕ) → length bs ≤ length out + fS → length bs ≤ length out + fT
           → bare (betweenScan fS fT (p .time) (length out)) ≡ bare (say (time u) j sc)
       unfolding timeBytes bare bareAct oneStep steps and-then
-      opens-later more e c z r d fS fT hS hT = ap (λ x. bare (and-then (oneStep t flag bs x (λ u′ e. steps t flag bs fS u′ e)) (λ k. sections t flag bs fT k))) (time-later t flag bs (length out) (p .time) u r d f here) ∙ ap (say (time u) 0) (go fS hS)
+      opens-later more e c z r d fS fT hS hT = ap (λ x. bare (and-then (oneStep t how bs x (λ u′ e. steps t how bs fS u′ e)) (λ k. sections t how bs fT k))) (time-later t flag bs (length out) (p .time) u r d f here) ∙ ap (say (time u) 0) (go fS hS)
         where
           wrote-so : timeBytes flag p u ≡ signedBytes (u - p .time)
           wrote-so = rw (ne-eqb (p .steps) 0 (λ w. omega arith))
@@ -142,7 +146,7 @@ module _ (t : Lists) (flag : Bool) (s : List ℕ) (room read : ℕ) (bs : List �
           c' : Scans (timed p u) (length out + length (signedBytes (u - p .time))) sc
           c' = subst (λ (k : ℕ). Scans (timed p u) k sc) place c
 
-          go : (g : ℕ) → length bs ≤ length out + g → bare (and-then (steps t flag bs g u (length out + length (signedBytes (u - p .time)))) (λ k. sections t flag bs fT k)) ≡ bare sc
+          go : (g : ℕ) → length bs ≤ length out + g → bare (and-then (steps t how bs g u (length out + length (signedBytes (u - p .time)))) (λ k. sections t how bs fT k)) ≡ bare sc
           go zero h = absurd (omega (arith, long, some))
           go (suc g) h = c' .within refl (omega arith) (length bs) g fT (omega arith) (omega (arith, some)) (omega arith)
 
@@ -173,8 +177,8 @@ module _ (t : Lists) (flag : Bool) (s : List ℕ) (room read : ℕ) (bs : List �
           long : length out + length (delta ++ val) ≤ length bs
           long = stands-inside (delta ++ val) here (omega (arith, some, both))
 
-          reads : value (nth (t .kinds) id) bs (length out + length delta) ≡ Value v (length out + length delta + length val)
-          reads = value-is (nth (t .kinds) id) v s j w (stands-next delta val here)
+          reads : value how (nth (t .kinds) id) bs (length out + length delta) ≡ Value v (length out + length delta + length val)
+          reads = value-is flag (nth (t .kinds) id) v s j w (stands-next delta val here)
 
           place : length (out ++ (delta ++ val)) ≡ length out + length delta + length val
           place = length-append out (delta ++ val) ∙ omega (arith, both)
@@ -185,7 +189,7 @@ module _ (t : Lists) (flag : Bool) (s : List ℕ) (room read : ℕ) (bs : List �
           go : (f : ℕ) → length bs ≤ length out + f → bare (inScan f fS fT (p .time) (p .id) (length out)) ≡ bare (say (write id v i) j sc)
           go zero l = absurd (omega (arith, long, some, both))
           go (suc f) l =
-              ap (λ x. bare (and-then (and-then x (λ j. say stepEnd j (oneStep t flag bs (nextTime bs (p .time) j) (λ u′ e. steps t flag bs fS u′ e)))) (λ k. sections t flag bs fT k)))
+              ap (λ x. bare (and-then (and-then x (λ j. say stepEnd j (oneStep t how bs (nextTime bs (p .time) j) (λ u′ e. steps t how bs fS u′ e)))) (λ k. sections t how bs fT k)))
               (write-on t flag bs f (p .id) id v (length out) val h k g here reads)
               ∙ ap (say (write id v 0) 0) (c' .within refl z f fS fT (omega (arith, some)) (omega arith) (omega arith))
 
@@ -210,14 +214,14 @@ module _ (t : Lists) (flag : Bool) (s : List ℕ) (room read : ℕ) (bs : List �
           go : (f : ℕ) → length bs ≤ length out + f → bare (inScan f fS fT (p .time) (p .id) (length out)) ≡ bare (say stepEnd j sc)
           go zero l = absurd (omega (arith, long))
           go (suc f) l =
-              ap (λ x. bare (and-then (and-then x (λ j. say stepEnd j (oneStep t flag bs (nextTime bs (p .time) j) (λ u′ e. steps t flag bs fS u′ e)))) (λ k. sections t flag bs fT k)))
+              ap (λ x. bare (and-then (and-then x (λ j. say stepEnd j (oneStep t how bs (nextTime bs (p .time) j) (λ u′ e. steps t how bs fS u′ e)))) (λ k. sections t how bs fT k)))
               (list-ends t flag bs f (p .id) (length out) here)
               ∙ ap (say stepEnd 0) (c' .between refl z fS fT (omega arith) (omega arith))
 
     -- ---- the end
 
     module _ (j : ℕ) (e : bs ≡ out ++ closing p) where
-      ends-first : p .steps ≡ 0 → length out ≡ 0 → bare (sections t flag bs (length bs) 0) ≡ done 0
+      ends-first : p .steps ≡ 0 → length out ≡ 0 → bare (sections t how bs (length bs) 0) ≡ done 0
       unfolding closing cycleEnd bare
       ends-first z l = go (length bs) refl
         where
@@ -230,14 +234,14 @@ module _ (t : Lists) (flag : Bool) (s : List ℕ) (room read : ℕ) (bs : List �
           long : 12 ≤ length bs
           long = stands-inside (tai ++ replicate 8 0) here (omega arith)
 
-          go : (m : ℕ) → length bs ≡ m → bare (sections t flag bs m 0) ≡ done 0
+          go : (m : ℕ) → length bs ≡ m → bare (sections t how bs m 0) ≡ done 0
           go zero q = absurd (omega (arith, long))
           go (suc g) q = ap bare (tailer-ends t flag bs 0 g here)
 
       ends-later : 1 ≤ p .steps → (fS fT : ℕ) → length bs ≤ length out + fS → length bs ≤ length out + fT → bare (betweenScan fS fT (p .time) (length out)) ≡ done 0
       unfolding closing cycleEnd bare and-then groups fits rest
       ends-later z fS fT hS hT =
-          ap (λ x. bare (and-then x (λ k. sections t flag bs fT k))) (cycle-ends t flag bs (length out) (p .time) (λ u′ e. steps t flag bs fS u′ e) (stands-first ending tail here)) ∙ go fT hT
+          ap (λ x. bare (and-then x (λ k. sections t how bs fT k))) (cycle-ends t flag bs (length out) (p .time) (λ u′ e. steps t how bs fS u′ e) (stands-first ending tail here)) ∙ go fT hT
         where
           ending : List ℕ
           ending = signedBytes (2 ^ 64 - 1) ++ ecy
@@ -257,7 +261,7 @@ module _ (t : Lists) (flag : Bool) (s : List ℕ) (room read : ℕ) (bs : List �
           long : length out + 1 + 4 + 12 ≤ length bs
           long = stands-inside (tai ++ replicate 8 0) next (omega arith)
 
-          go : (f : ℕ) → length bs ≤ length out + f → bare (sections t flag bs f (length out + 1 + 4)) ≡ done 0
+          go : (f : ℕ) → length bs ≤ length out + f → bare (sections t how bs f (length out + 1 + 4)) ≡ done 0
           go zero l = absurd (omega (arith, long))
           go (suc f) l = ap bare (tailer-ends t flag bs (length out + 1 + 4) f next)
 
@@ -338,6 +342,6 @@ module _ (t : Lists) (flag : Bool) (s : List ℕ) (room read : ℕ) (bs : List �
         (change-found t s i (p .inside) refl refl) (next-known t s b (p .inside) i) e
 
     -- where change records are written, section reading of the bytes scans their acts and ends as they do
-    pub reread : writeSections t flag s room ≡ wrote read bs n → bare (scanSections t flag bs) ≡ bare (scanChanges t s)
+    pub reread : writeSections t flag s room ≡ wrote read bs n → bare (scanSections t (ordinary flag) bs) ≡ bare (scanChanges t s)
     unfolding writeSections scanSections scanChanges
     reread e = all (length s) begin [] 0 (omega arith) e .2 .first refl refl refl

@@ -7,6 +7,7 @@ use mathlib.Core.Option.{Option, none, some}
 use mathlib.Core.List.{List, [], _∷_, _++_, map}
 use Rattle.numbers.specs.Fixed.Laws.{Bytes}
 use Rattle.tables.specs.Lists.{Lists}
+use Rattle.values.specs.Value.{ordinary}
 use Rattle.rules.specs.Vector.{Write, put, rewritten, complete, Item, wrote, Vec, all, act, fires, clashes, stored, actsEarly}
 use Rattle.rules.specs.Gather.{Act, time, write, stepEnd, of, State, begin, width, bitWrite, toVector, toward, does}
 use Rattle.event_rooms.specs.Out.{Rooms, Out, empty, appendAll}
@@ -87,5 +88,5 @@ module _ (t : Lists) where
 
     -- "reading them gives the same events as change reading"
     pub same-events : (flag : Bool) (s : List ℕ) (room read : ℕ) (bs : List ℕ) (n : ℕ) → Bytes s → writeSections t flag s room ≡ ended.wrote read bs n
-        → bareWent (runAll t r (scanSections t flag bs)) ≡ bareWent (runAll t r (scanChanges t s))
-    same-events flag s room read bs n b e = same-run (scanSections t flag bs) (scanChanges t s) (reread t flag s room read bs n b e)
+        → bareWent (runAll t r (scanSections t (ordinary flag) bs)) ≡ bareWent (runAll t r (scanChanges t s))
+    same-events flag s room read bs n b e = same-run (scanSections t (ordinary flag) bs) (scanChanges t s) (reread t flag s room read bs n b e)

@@ -16,15 +16,15 @@ use Rattle.numbers.specs.Fixed.Laws.{Bytes, big-below, part-bytes}
 use Rattle.tables.specs.Lists.{Lists, nth, signals}
 use Rattle.values.specs.declared.Read.{Read}
 use Rattle.values.specs.declared.Read.the-variants as read
-use Rattle.values.specs.Value.{onRead, value}
-use Rattle.values.specs.Value.Reads.{Reads, byte-value-reads}
+use Rattle.values.specs.Value.{onRead, narrow}
+use Rattle.values.specs.Value.Reads.{Reads, narrow-reads}
 use Rattle.changes.specs.declared.Change.{Change}
 use Rattle.changes.specs.declared.Change.the-variants.{Time, Write, StepEnd, End, Bad}
 use Rattle.changes.specs.Changes.{recordLength, written, writeRecord, inOrder, changeRecord, nextChange}
 
 -- of a write: a byte write's value is that of its last byte, and a wide one fits 64 bits
 pub record Writes (kind : ℕ) (s : List ℕ) (v j : ℕ) : Type 0 where
-  pub byte : kind ≤ 4 → value kind s (j - 1) ≡ read.Value v j
+  pub byte : kind ≤ 4 → narrow kind s (j - 1) ≡ read.Value v j
   pub wide : 5 ≤ kind → v < 2 ^ 64
 
 abbrev pub Known : Lists → List ℕ → Bool → Change → Type 0
@@ -47,21 +47,21 @@ module _ (t : Lists) (s : List ℕ) (b : Bytes s) where
       omega (arith, big-below (part s at n) (part-bytes s at n b))
 
   module _ (inside : Bool) (open? : inside ≡ true) (id i : ℕ) (f : id < 2 ^ 64) where
-    next-byte : (kind v j : ℕ) → kind ≤ 4 → value kind s (i + 5) ≡ read.Value v j → j - 1 ≡ i + 5
+    next-byte : (kind v j : ℕ) → narrow kind s (i + 5) ≡ read.Value v j → j - 1 ≡ i + 5
     unfolding Reads
-    next-byte kind v j h e = let r : j ≡ i + 5 + 1 = subst (Reads (λ x. x ≡ i + 5 + 1)) e (byte-value-reads (λ x. x ≡ i + 5 + 1) kind s (i + 5) h refl) in omega arith
+    next-byte kind v j e = let r : j ≡ i + 5 + 1 = subst (Reads (λ x. x ≡ i + 5 + 1)) e (narrow-reads (λ x. x ≡ i + 5 + 1) kind s (i + 5) refl) in omega arith
 
-    byte-known : nth (t .kinds) id ≤ 4 → (r : Read) → r ≡ value (nth (t .kinds) id) s (i + 5) → Known t s inside (onRead r Bad (λ v j. Write id v j))
+    byte-known : nth (t .kinds) id ≤ 4 → (r : Read) → r ≡ narrow (nth (t .kinds) id) s (i + 5) → Known t s inside (onRead r Bad (λ v j. Write id v j))
     unfolding onRead
     byte-known h (read.Value v j) e =
-        (open?, f, record { byte = λ k. rw (next-byte (nth (t .kinds) id) v j h (sym e)) (sym e); wide = λ k. absurd (omega arith) })
+        (open?, f, record { byte = λ k. rw (next-byte (nth (t .kinds) id) v j (sym e)) (sym e); wide = λ k. absurd (omega arith) })
     byte-known h (read.Bad n p) e = tt
 
     written-known : (k : ℕ) → Known t s inside (written t s k id i)
     unfolding written
     written-known k =
         cond-ind (eqb k 2) _ _ (Known t s inside)
-        (λ e. cond-ind (leb (nth (t .kinds) id) 4) _ _ (Known t s inside) (λ g. byte-known (leb-true _ _ g) (value (nth (t .kinds) id) s (i + 5)) refl) (λ g. tt))
+        (λ e. cond-ind (leb (nth (t .kinds) id) 4) _ _ (Known t s inside) (λ g. byte-known (leb-true _ _ g) (narrow (nth (t .kinds) id) s (i + 5)) refl) (λ g. tt))
         (λ e. cond-ind (leb 5 (nth (t .kinds) id)) _ _ (Known t s inside)
         (λ g. let h = leb-true 5 (nth (t .kinds) id) g in (open?, f, record { byte = λ k. absurd (omega arith); wide = λ k. big-fits (i + 5) 8 (omega arith) }))
         (λ g. tt))

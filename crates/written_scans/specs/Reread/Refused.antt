@@ -12,6 +12,7 @@ use lib.Dec.{ltb, leb}
 use Rattle.slices.specs.Choice.{cond-ind}
 use Rattle.number_writer.specs.Ended.{Ended, wrote, refused}
 use Rattle.tables.specs.Lists.{Lists, nth}
+use Rattle.values.specs.Value.{ordinary}
 use Rattle.rules.specs.Gather.{Act, time, write, stepEnd}
 use Rattle.rules.specs.Scan.{Scan, say, done, fault, Ends, Faults}
 use Rattle.section_scan.specs.Sections.{scanSections}
@@ -96,6 +97,6 @@ module _ (t : Lists) (room : ℕ) where
   gives (done i) out n h = (refl, h)
   gives (fault k p) out n h = inl (refl, refl)
 
-  pub gives-as : (flag : Bool) (s : List ℕ) → Comes Full room (readBack t flag s room) (scanSections t flag s)
+  pub gives-as : (flag : Bool) (s : List ℕ) → Comes Full room (readBack t flag s room) (scanSections t (ordinary flag) s)
   unfolding readBack
-  gives-as flag s = gives (scanSections t flag s) [] 0 (omega arith)
+  gives-as flag s = gives (scanSections t (ordinary flag) s) [] 0 (omega arith)

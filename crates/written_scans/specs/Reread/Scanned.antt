@@ -12,8 +12,9 @@ use Rattle.numbers.specs.Fixed.{fixed, negative}
 use Rattle.numbers.specs.Marks.{cyc, ecy, tai}
 use Rattle.numbers.specs.Marks.Laws.{same-is, marks-open}
 use Rattle.tables.specs.Lists.{Lists, nth, signals}
+use Rattle.values.specs.declared.How.{How}
 use Rattle.values.specs.declared.Read.the-variants.{Value}
-use Rattle.values.specs.Value.{onRead, value}
+use Rattle.values.specs.Value.{ordinary, onRead, value}
 use Rattle.rules.specs.Gather.{time, write}
 use Rattle.rules.specs.Scan.{Scan, say, done, and-then}
 use Rattle.section_scan.specs.declared.NextTime.the-variants as times
@@ -29,9 +30,12 @@ unfolding field
 field-is n s i k h = rw (le-leb (i + n) (length s) h)
 
 module _ (t : Lists) (flag : Bool) (bs : List ℕ) where
+  abbrev how : How
+  how = ordinary flag
+
   -- a cycle's mark and its time
   pub cycle-opens : (at u f : ℕ) {more : List ℕ} → u < 2 ^ 64 → Stands bs at (cyc ++ fixedBytes flag 8 u) more
-      → sections t flag bs (suc f) at ≡ say (time u) (at + 4 + 8) (and-then (steps t flag bs (length bs) u (at + 4 + 8)) (λ k. sections t flag bs f k))
+      → sections t how bs (suc f) at ≡ say (time u) (at + 4 + 8) (and-then (steps t how bs (length bs) u (at + 4 + 8)) (λ k. sections t how bs f k))
   unfolding sections oneSection cycle and-then
   cycle-opens at u f {more} h w =
       let a : Stands bs at cyc (fixedBytes flag 8 u ++ more) = stands-first cyc (fixedBytes flag 8 u) w in
@@ -39,10 +43,10 @@ module _ (t : Lists) (flag : Bool) (bs : List ℕ) where
       let k : length (fixedBytes flag 8 u) ≡ 8 = length-fixedBytes flag 8 u in
       let i : at + 4 + 8 ≤ length bs = rw k at (stands-inside (fixedBytes flag 8 u) b (omega arith)) in
       field-is 4 bs at _ (omega arith)
-      ∙ rw (stands-part cyc a, marks-open .1, field-is 8 bs (at + 4) (λ j. say (time (fixed flag (part bs (at + 4) 8))) j (steps t flag bs (length bs) (fixed flag (part bs (at + 4) 8)) j)) i, fixed-is h flag b)
+      ∙ rw (stands-part cyc a, marks-open .1, field-is 8 bs (at + 4) (λ j. say (time (fixed flag (part bs (at + 4) 8))) j (steps t how bs (length bs) (fixed flag (part bs (at + 4) 8)) j)) i, fixed-is h flag b)
 
   -- the tailer
-  pub tailer-ends : (at f : ℕ) {more : List ℕ} → Stands bs at (tai ++ replicate 8 0) more → sections t flag bs (suc f) at ≡ done (at + 4 + 8)
+  pub tailer-ends : (at f : ℕ) {more : List ℕ} → Stands bs at (tai ++ replicate 8 0) more → sections t how bs (suc f) at ≡ done (at + 4 + 8)
   unfolding sections oneSection
   tailer-ends at f {more} w =
       let a : Stands bs at tai (replicate 8 0 ++ more) = stands-first tai (replicate 8 0) w in
@@ -58,7 +62,7 @@ module _ (t : Lists) (flag : Bool) (bs : List ℕ) where
       rw (signed-is (omega arith) w, lt-leb (2 ^ 63) (u' - u) d, e, lt-ltb u' (2 ^ 64) l)
 
   -- "a closing delta of -1", and the end mark
-  pub cycle-ends : (at u : ℕ) (k : ℕ → ℕ → Scan) {more : List ℕ} → Stands bs at (signedBytes (2 ^ 64 - 1) ++ ecy) more → oneStep t flag bs (nextTime bs u at) k ≡ done (at + 1 + 4)
+  pub cycle-ends : (at u : ℕ) (k : ℕ → ℕ → Scan) {more : List ℕ} → Stands bs at (signedBytes (2 ^ 64 - 1) ++ ecy) more → oneStep t how bs (nextTime bs u at) k ≡ done (at + 1 + 4)
   unfolding nextTime onRead negative oneStep endMark groups fits rest
   cycle-ends at u k {more} w =
       let a : Stands bs at (signedBytes (2 ^ 64 - 1)) (ecy ++ more) = stands-first (signedBytes (2 ^ 64 - 1)) ecy w in
@@ -68,9 +72,9 @@ module _ (t : Lists) (flag : Bool) (bs : List ℕ) where
 
   -- a write
   pub write-on : (f id id' v at : ℕ) (vb : List ℕ) {more : List ℕ} → id < id' → id' ≤ signals t → id' < 2 ^ 64 → Stands bs at (unsignedBytes (id' - id) ++ vb) more
-      → value (nth (t .kinds) id') bs (at + length (unsignedBytes (id' - id))) ≡ Value v (at + length (unsignedBytes (id' - id)) + length vb)
-      → changeList t bs (suc f) id at
-      ≡ say (write id' v (at + length (unsignedBytes (id' - id)))) (at + length (unsignedBytes (id' - id)) + length vb) (changeList t bs f id' (at + length (unsignedBytes (id' - id)) + length vb))
+      → value how (nth (t .kinds) id') bs (at + length (unsignedBytes (id' - id))) ≡ Value v (at + length (unsignedBytes (id' - id)) + length vb)
+      → changeList t how bs (suc f) id at
+      ≡ say (write id' v (at + length (unsignedBytes (id' - id)))) (at + length (unsignedBytes (id' - id)) + length vb) (changeList t how bs f id' (at + length (unsignedBytes (id' - id)) + length vb))
   unfolding changeList nextId oneChange onRead
   write-on f id id' v at vb {more} h n l w e =
       let a : Stands bs at (unsignedBytes (id' - id)) (vb ++ more) = stands-first (unsignedBytes (id' - id)) vb w in
@@ -78,6 +82,6 @@ module _ (t : Lists) (flag : Bool) (bs : List ℕ) where
       rw (unsigned-is (omega arith) a, ne-eqb (id' - id) 0 (λ z. omega arith), q, le-leb id' (signals t) n, e)
 
   -- a step's end
-  pub list-ends : (f id at : ℕ) {more : List ℕ} → Stands bs at (0 ∷ []) more → changeList t bs (suc f) id at ≡ done (at + 1)
+  pub list-ends : (f id at : ℕ) {more : List ℕ} → Stands bs at (0 ∷ []) more → changeList t how bs (suc f) id at ≡ done (at + 1)
   unfolding changeList nextId oneChange onRead groups fits rest
   list-ends f id at w = rw (unsigned-is {n = 0} (omega arith) w)

@@ -21,7 +21,7 @@ use Rattle.states.specs.Letters.Laws.{unmapped-back}
 use Rattle.tables.specs.Lists.{Lists, nth, signals}
 use Rattle.values.specs.declared.Read.{Read}
 use Rattle.values.specs.declared.Read.the-variants as read
-use Rattle.values.specs.Value.{onRead, byteUpTo, signed, real, value}
+use Rattle.values.specs.Value.{onRead, byteUpTo, narrow}
 use Rattle.rules.specs.Gather.{time, write, stepEnd}
 use Rattle.changes.specs.declared.Change.{Change}
 use Rattle.changes.specs.declared.Change.the-variants.{Time, Write, StepEnd, End, Bad}
@@ -51,17 +51,16 @@ module _ (s : List ℕ) (a v j : ℕ) where
       (λ t w. absurd (not-value w))
 
   -- a byte write's value is that of its byte
-  pub byte-back : (kind : ℕ) → kind ≤ 4 → value kind s a ≡ read.Value v j → (byteOf kind v ≡ getD s a 0) × (j ≡ a + 1)
-  unfolding value byteOf
-  byte-back kind h e = by (leb kind 1) (leb kind 3) (eqb kind 4) (λ u w. absurd (omega (arith, leb-false kind 3 u, eqb-false kind 4 w))) e
+  pub byte-back : (kind : ℕ) → narrow kind s a ≡ read.Value v j → (byteOf kind v ≡ getD s a 0) × (j ≡ a + 1)
+  unfolding narrow byteOf
+  byte-back kind e = by (leb kind 1) (leb kind 3) e
     where
-      by : (x y z : Bool) → (y ≡ false → z ≡ false → ⊥)
-          → cond x (byteUpTo 8 mapped s a) (cond y (byteUpTo 1 (λ b. b) s a) (cond z (byteUpTo 255 (λ b. b) s a) (cond (eqb kind 5) (signed s a) (real s a)))) ≡ read.Value v j
+      by : (x y : Bool)
+          → cond x (byteUpTo 8 mapped s a) (cond y (byteUpTo 1 (λ b. b) s a) (byteUpTo 255 (λ b. b) s a)) ≡ read.Value v j
           → (cond x (unmapped v) v ≡ getD s a 0) × (j ≡ a + 1)
-      by true y z n e = let r = byte-value 8 mapped e in (ap unmapped (sym (r .1)) ∙ unmapped-back (getD s a 0) (r .0), r .2)
-      by false true z n e = let r = byte-value 1 (λ b. b) e in (sym (r .1), r .2)
-      by false false true n e = let r = byte-value 255 (λ b. b) e in (sym (r .1), r .2)
-      by false false false n e = absurd (n refl refl)
+      by true y e = let r = byte-value 8 mapped e in (ap unmapped (sym (r .1)) ∙ unmapped-back (getD s a 0) (r .0), r .2)
+      by false true e = let r = byte-value 1 (λ b. b) e in (sym (r .1), r .2)
+      by false false e = let r = byte-value 255 (λ b. b) e in (sym (r .1), r .2)
 
 module _ (t : Lists) (s : List ℕ) (b : Bytes s) where
   -- the bytes of a number that is read
@@ -82,10 +81,10 @@ module _ (t : Lists) (s : List ℕ) (b : Bytes s) where
           let r : i + 1 + 4 ≡ i + 5 = omega arith in
           kind-there i k h e ∙ ap (λ x. k ∷ x) (number-there (i + 1) 4 l ∙ (ap (λ x. bigBytes 4 x ++ drop (i + 1 + 4) s) (sym q) ∙ ap (λ n. bigBytes 4 id ++ drop n s) r))
 
-      byte-spelled : getD s i 0 ≡ 2 → i + 6 ≤ length s → (kind : ℕ) → kind ≤ 4 → (v j : ℕ) → value kind s (i + 5) ≡ read.Value v j → drop i s ≡ writeOf kind id v ++ drop j s
+      byte-spelled : getD s i 0 ≡ 2 → i + 6 ≤ length s → (kind : ℕ) → kind ≤ 4 → (v j : ℕ) → narrow kind s (i + 5) ≡ read.Value v j → drop i s ≡ writeOf kind id v ++ drop j s
       unfolding writeOf
       byte-spelled e l kind g v j w =
-          let r = byte-back s (i + 5) v j kind g w in
+          let r = byte-back s (i + 5) v j kind w in
           let c : drop (i + 5) s ≡ byteOf kind v ∷ drop j s = kind-there (i + 5) (byteOf kind v) (omega arith) (sym (r .0)) ∙ ap (λ n. byteOf kind v ∷ drop n s) (sym (r .1)) in
           id-there 2 e (omega arith)
           ∙ (ap (λ x. (2 ∷ bigBytes 4 id) ++ x) c ∙ (sym (append-assoc (2 ∷ bigBytes 4 id) (byteOf kind v ∷ []) (drop j s)) ∙ rw (le-leb kind 4 g)))
@@ -103,11 +102,11 @@ module _ (t : Lists) (s : List ℕ) (b : Bytes s) where
       written-spelled k e w third =
           cond-ind (eqb k 2) _ _ (Spelled t s i)
           (λ g. cond-ind (leb (nth (t .kinds) id) 4) _ _ (Spelled t s i)
-          (λ f. byte (eqb-true k 2 g) (leb-true _ _ f) (value (nth (t .kinds) id) s (i + 5)) refl) (λ f. tt))
+          (λ f. byte (eqb-true k 2 g) (leb-true _ _ f) (narrow (nth (t .kinds) id) s (i + 5)) refl) (λ f. tt))
           (λ g. cond-ind (leb 5 (nth (t .kinds) id)) _ _ (Spelled t s i)
           (λ f. wide-spelled (e ∙ third (eqb-false k 2 g)) (w .wide (eqb-false k 2 g)) (nth (t .kinds) id) (leb-true _ _ f)) (λ f. tt))
         where
-          byte : k ≡ 2 → nth (t .kinds) id ≤ 4 → (r : Read) → value (nth (t .kinds) id) s (i + 5) ≡ r → Spelled t s i (onRead r Bad (λ v j. Write id v j))
+          byte : k ≡ 2 → nth (t .kinds) id ≤ 4 → (r : Read) → narrow (nth (t .kinds) id) s (i + 5) ≡ r → Spelled t s i (onRead r Bad (λ v j. Write id v j))
           byte g f (read.Value v j) q = byte-spelled (e ∙ g) (w .byte g) (nth (t .kinds) id) f v j q
           byte g f (read.Bad n p) q = tt
 

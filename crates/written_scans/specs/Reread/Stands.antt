@@ -6,7 +6,7 @@ use mathlib.Core.Bool.{Bool, true, false, cond}
 use mathlib.Core.List.{List, [], _∷_, _++_, append-assoc}
 use mathlib.Core.Logic.{⊎-elim}
 use native.Mathlib.Omega.{arith}
-use borrow.Author.Tests.{le-leb, lt-leb, leb-false, eqb-true, eqb-false}
+use borrow.Author.Tests.{le-leb, lt-leb, eqb-true, eqb-false}
 use lib.ListN.{length, getD, drop, length-append, length-drop}
 use lib.Seq.{take-append-seam, drop-append-seam, drop-drop, getD-drop}
 use lib.Dec.{leb, eqb}
@@ -16,8 +16,8 @@ use Rattle.numbers.specs.Fixed.{fixed, little}
 use Rattle.states.specs.Letters.{mapped}
 use Rattle.values.specs.declared.Read.{Read}
 use Rattle.values.specs.declared.Read.the-variants.{Value, Bad}
-use Rattle.values.specs.Value.Laws.{value-integer, value-real}
-use Rattle.values.specs.Value.{number, unsigned, signed, byteUpTo, real, value}
+use Rattle.values.specs.Value.Laws.{value-narrow, value-integer, value-real}
+use Rattle.values.specs.Value.{ordinary, number, unsigned, signed, byteUpTo, real, narrow, value}
 use Rattle.leb128.specs.Shortest.{unsignedBytes, signedBytes}
 use Rattle.leb128.specs.Shortest.Laws.{unsigned-read, signed-read}
 use Rattle.number_writer.specs.Little.{littleBytes, fixedBytes}
@@ -65,9 +65,9 @@ module _ {l : List ℕ} {at n : ℕ} {more : List ℕ} (f : n < 2 ^ 64) where
   pub fixed-is : (flag : Bool) → Stands l at (fixedBytes flag 8 n) more → fixed flag (part l at 8) ≡ n
   fixed-is flag h = ap (fixed flag) (rw (length-fixedBytes flag 8 n) at (stands-part (fixedBytes flag 8 n) h)) ∙ fixed-back flag 8 n f
 
-  pub real-is : Stands l at (littleBytes 8 n) more → real l at ≡ Value n (at + length (littleBytes 8 n))
-  unfolding real
-  real-is h =
+  pub real-is : (flag : Bool) → Stands l at (littleBytes 8 n) more → real (ordinary flag) l at ≡ Value n (at + length (littleBytes 8 n))
+  unfolding real fixed
+  real-is flag h =
       let k : length (littleBytes 8 n) ≡ 8 = length-littleBytes 8 n in
       let i : at + 8 ≤ length l = rw k at (stands-inside (littleBytes 8 n) h (omega arith)) in
       let p : little (part l at 8) ≡ n = ap little (rw k at (stands-part (littleBytes 8 n) h)) ∙ little-back 8 n f in
@@ -91,32 +91,31 @@ module _ (s : List ℕ) (a v : ℕ) where
       (λ u w. absurd (not-value w)))
       (λ t w. absurd (not-value w)) e
 
-  value-same : (kind : ℕ) → kind ≤ 4 → SameByte s a v (λ l i. value kind l i)
-  unfolding value
-  value-same kind k j e l at h q =
-      by (leb kind 1) (leb kind 3) (eqb kind 4) (λ u w. absurd (omega (arith, leb-false kind 3 u, eqb-false kind 4 w))) e
+  narrow-same : (kind : ℕ) → SameByte s a v (λ l i. narrow kind l i)
+  unfolding narrow
+  narrow-same kind j e l at h q = by (leb kind 1) (leb kind 3) e
     where
-      by : (x y z : Bool) → (y ≡ false → z ≡ false → ⊥)
-          → cond x (byteUpTo 8 mapped s a) (cond y (byteUpTo 1 (λ b. b) s a) (cond z (byteUpTo 255 (λ b. b) s a) (cond (eqb kind 5) (signed s a) (real s a)))) ≡ Value v j
-          → cond x (byteUpTo 8 mapped l at) (cond y (byteUpTo 1 (λ b. b) l at) (cond z (byteUpTo 255 (λ b. b) l at) (cond (eqb kind 5) (signed l at) (real l at)))) ≡ Value v (at + 1)
-      by true y z n e = byte-same 8 mapped j e l at h q
-      by false true z n e = byte-same 1 (λ b. b) j e l at h q
-      by false false true n e = byte-same 255 (λ b. b) j e l at h q
-      by false false false n e = absurd (n refl refl)
+      by : (x y : Bool)
+          → cond x (byteUpTo 8 mapped s a) (cond y (byteUpTo 1 (λ b. b) s a) (byteUpTo 255 (λ b. b) s a)) ≡ Value v j
+          → cond x (byteUpTo 8 mapped l at) (cond y (byteUpTo 1 (λ b. b) l at) (byteUpTo 255 (λ b. b) l at)) ≡ Value v (at + 1)
+      by true y e = byte-same 8 mapped j e l at h q
+      by false true e = byte-same 1 (λ b. b) j e l at h q
+      by false false e = byte-same 255 (λ b. b) j e l at h q
 
 -- ---- a value
 
-module _ (kind v : ℕ) (s : List ℕ) (j : ℕ) (w : Writes kind s v j) {l : List ℕ} {at : ℕ} {more : List ℕ} where
-  pub value-is : Stands l at (valueBytes kind v s j) more → value kind l at ≡ Value v (at + length (valueBytes kind v s j))
+module _ (flag : Bool) (kind v : ℕ) (s : List ℕ) (j : ℕ) (w : Writes kind s v j) {l : List ℕ} {at : ℕ} {more : List ℕ} where
+  pub value-is : Stands l at (valueBytes kind v s j) more → value (ordinary flag) kind l at ≡ Value v (at + length (valueBytes kind v s j))
   unfolding valueBytes
   value-is h =
       ⊎-elim
       (λ (k : kind ≤ 4).
       let g : Stands l at (getD s (j - 1) 0 ∷ []) more = rw (le-leb kind 4 k) at h in
-      rw (le-leb kind 4 k) (value-same s (j - 1) v kind k j (w .byte k) l at (stands-inside _ g (omega arith)) (stands-byte _ g)))
+      let e = narrow-same s (j - 1) v kind j (w .byte k) l at (stands-inside _ g (omega arith)) (stands-byte _ g) in
+      rw (le-leb kind 4 k) (sym (value-narrow (ordinary flag) kind l at k (sym e))))
       (λ (k : 4 < kind). wide k (eqb kind 5) refl (rw (lt-leb kind 4 k) at h))
       (le-or-lt kind 4)
     where
-      wide : 4 < kind → (b : Bool) → eqb kind 5 ≡ b → Stands l at (cond b (signedBytes v) (littleBytes 8 v)) more → value kind l at ≡ Value v (at + length (cond (leb kind 4) (getD s (j - 1) 0 ∷ []) (cond (eqb kind 5) (signedBytes v) (littleBytes 8 v))))
-      wide k true e g = rw (lt-leb kind 4 k, e) (sym (value-integer kind l at k (eqb-true kind 5 e) (sym (signed-is (w .wide (omega arith)) g))))
-      wide k false e g = rw (lt-leb kind 4 k, e) (sym (value-real kind l at k (eqb-false kind 5 e) (sym (real-is (w .wide (omega arith)) g))))
+      wide : 4 < kind → (b : Bool) → eqb kind 5 ≡ b → Stands l at (cond b (signedBytes v) (littleBytes 8 v)) more → value (ordinary flag) kind l at ≡ Value v (at + length (cond (leb kind 4) (getD s (j - 1) 0 ∷ []) (cond (eqb kind 5) (signedBytes v) (littleBytes 8 v))))
+      wide k true e g = rw (lt-leb kind 4 k, e) (sym (value-integer (ordinary flag) kind l at k (eqb-true kind 5 e) (sym (signed-is (w .wide (omega arith)) g))))
+      wide k false e g = rw (lt-leb kind 4 k, e) (sym (value-real (ordinary flag) kind l at k (eqb-false kind 5 e) (sym (real-is (w .wide (omega arith)) flag g))))

@@ -11,6 +11,7 @@ use lib.Dec.{ltb}
 use Rattle.slices.specs.Choice.{cond-ind}
 use Rattle.numbers.specs.Fixed.Laws.{Bytes}
 use Rattle.tables.specs.Lists.{Lists, nth}
+use Rattle.values.specs.Value.{ordinary}
 use Rattle.rules.specs.Gather.{Act, time, write, stepEnd}
 use Rattle.rules.specs.Scan.{Scan, say, done, fault}
 use Rattle.changes.specs.declared.Change.{Change}
@@ -114,14 +115,14 @@ module _ (t : Lists) (flag : Bool) (s : List ℕ) (room read : ℕ) (bs : List �
       unfolding writeSections scanChanges
       streams = all (length s) begin [] 0 (omega arith) e
 
-      same : bare (scanSections t flag bs) ≡ bare (scanChanges t s)
+      same : bare (scanSections t (ordinary flag) bs) ≡ bare (scanChanges t s)
       same = reread t flag s room read bs n b e
 
       -- what was written, read back where there is room for it, is the stream that it was written from, with as many steps: so writing it again gives the same bytes
       pub read-back : (back : ℕ) → length s ≤ back → (r : ℕ) × (readBack t flag bs back ≡ wrote r s n)
       unfolding readBack
       read-back back h =
-          let sc = scanSections t flag bs in
+          let sc = scanSections t (ordinary flag) bs in
           let f : Finishes sc = bare-finishes sc (subst Finishes (sym same) (finishes-bare (scanChanges t s) (streams .finishes))) in
           let q : recordsOf t sc ≡ s = records-bare t sc ∙ (ap (recordsOf t) same ∙ (sym (records-bare t (scanChanges t s)) ∙ streams .spelled)) in
           let k : timesOf sc ≡ n = times-bare sc ∙ (ap timesOf same ∙ (sym (times-bare (scanChanges t s)) ∙ (sym (zero-add _) ∙ sym (streams .counted)))) in
