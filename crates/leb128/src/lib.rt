@@ -1,11 +1,13 @@
 // LEB128 numbers, as DWARF defines them, of at most ten bytes.
+#![tactic(auto)]
+
 ghost use Rattle.std.specs.Prelude.{◌≡◌, ◌+◌, ◌<◌, ◌≤◌, ◌^◌, length};
 ghost use Rattle.leb128.specs.Leb128.{read_unsigned, read_signed};
 ghost use Rattle.leb128.specs.Leb128.Nine.{signed_end};
 ghost use Rattle.leb128.specs.Leb128.Nine.{Nine};
 
 // What reading a number finds.
-#[derive(Drop)]
+#[derive(Clone, Copy)]
 pub enum Leb {
     // The number, and the place after it.
     Value(u64, usize),
@@ -16,7 +18,7 @@ pub enum Leb {
 }
 
 // The first nine bytes of a number, or fewer where it ends before.
-#[derive(Drop)]
+#[derive(Clone, Copy)]
 enum Run {
     // It ends there: the sum of its groups, 128 to the number of them, its last byte, and the place after it.
     Ended {

@@ -1,4 +1,6 @@
 // Bytes and numbers written to a buffer where they fit: LEB128, DWARF 5 section 7.6, in its shortest form, and numbers of fixed size.
+#![tactic(auto)]
+
 ghost use Rattle.std.specs.Prelude.{◌≡◌, [], ◌∷◌, ◌≤◌, length};
 ghost use Rattle.slices.specs.Field.{field_of};
 ghost use Rattle.slices.specs.Splice.{splice, part};
@@ -11,7 +13,7 @@ use numbers::house::put_u64;
 use slices::{Field, copy_part};
 
 // How a call that fills one output ends.
-#[derive(Drop)]
+#[derive(Clone, Copy)]
 pub enum Written {
     Done {
         read: usize,

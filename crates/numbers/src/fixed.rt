@@ -6,7 +6,7 @@ ghost use Rattle.numbers.specs.Fixed.{little, fixed, positive};
 use crate::house::{from_be_bytes, get_u32};
 
 // A signed number of 32 bits, told apart by its sign.
-#[derive(Drop)]
+#[derive(Clone, Copy)]
 pub enum Positive {
     Number(u32),
     Negative,

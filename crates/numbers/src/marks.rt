@@ -35,7 +35,7 @@ pub fn is_mark(s: &[u8], at: usize, mark: &[u8; 4]) -> bool
 }
 
 // What a section mark opens.
-#[derive(Drop)]
+#[derive(Clone, Copy)]
 pub enum Section {
     Snapshot,
     Cycle,

@@ -1,4 +1,6 @@
 // Values in packed bytes: fields of one bit or four, by shifts and masks.
+#![tactic(auto)]
+
 ghost use Rattle.std.specs.Prelude.{◌≡◌, ◌+◌, ◌-◌, ◌*◌, ◌≤◌, ◌<◌, ◌/◌, ◌%◌, ◌^◌, length, get_or, set};
 ghost use Rattle.states.specs.Kind.{bits, per_byte};
 ghost use Rattle.states.specs.Field.{field_get, field_set};

@@ -1,8 +1,9 @@
 -- How the listing spells numbers and bytes, and how much of a text a room holds.
 -- Assumes nothing.
-use Rattle.std.specs.Prelude.{ℕ, zero, suc, ◌/◌, ◌%◌, ◌+◌, ◌≡◌, cond, List, [], ◌∷◌, ◌++◌, ltb, length, take}
+use Rattle.std.specs.Prelude.{ℕ, zero, suc, ◌/◌, ◌%◌, ◌+◌, ◌≡◌, ◌≤◌, cond, List, [], ◌∷◌, ◌++◌, ltb, length, take}
 use Rattle.slices.specs.Splice.{splice}
 pub mod Laws
+pub mod Digits
 
 -- the ASCII code of a digit: `0` to `9`, then `a` to `f`
 unfoldable pub digit : ℕ → ℕ
@@ -21,6 +22,10 @@ decimal n = decimal_of 20 n
 unfoldable pub hex : List ℕ → List ℕ
 hex [] = []
 hex (b ∷ bs) = digit (b / 16) ∷ digit (b % 16) ∷ hex bs
+
+-- a length that lies within a room, which is that of the room's part up to there
+abbrev pub IsPrefixLen : ℕ → List ℕ → Type 0
+IsPrefixLen n room = (n ≤ length room) × (n ≡ length (take n room))
 
 -- as much of `l` as fits stands at the start of the room, which is as it was behind it; `n` says how much
 pub record Holds (room l room' : List ℕ) (n : ℕ) : Type 0 where

@@ -1,5 +1,7 @@
 // Text in a lent room: as much of it as fits.
-ghost use Rattle.std.specs.Prelude.{◌≡◌, ◌<◌, ◌/◌, ◌%◌, min, [], ◌∷◌};
+#![tactic(auto)]
+
+ghost use Rattle.std.specs.Prelude.{◌≡◌, ◌<◌, ◌≤◌, ◌/◌, ◌%◌, min, drop, [], ◌∷◌};
 ghost use Rattle.plain_text.specs.Text.{digit, decimal, hex};
 ghost use Rattle.plain_text.specs.Text.Laws.{Adds};
 
@@ -23,19 +25,36 @@ pub fn put(text: &mut [u8], at: usize, bytes: &[u8]) -> usize
     at + n
 }
 
-pub fn put_decimal(text: &mut [u8], at: usize, number: u64) -> usize
-    ensures { Adds text.old at (decimal number) text.new result }
-{
-    let mut digits = [0u8; 20];
-    let n = io::decimal(number, &mut digits);
-    put(text, at, &digits[..n])
-}
-
 fn glyph(d: u8) -> u8
     requires { d < 16 }
     ensures { result ≡ digit d }
 {
     if d < 10 { 48 + d } else { 87 + d }
+}
+
+// Writes the digits of a number so that they end the room, and says where they begin.
+fn spell(number: u64, digits: &mut [u8; 20]) -> usize
+    ensures in_bounds { result ≤ 20 }
+    ensures digits { drop result digits.new ≡ decimal number }
+{
+    let mut at: usize = 20;
+    let mut left = number;
+    while 10 <= left {
+        at -= 1;
+        digits[at] = glyph((left % 10) as u8);
+        left /= 10;
+    }
+    at -= 1;
+    digits[at] = glyph(left as u8);
+    at
+}
+
+pub fn put_decimal(text: &mut [u8], at: usize, number: u64) -> usize
+    ensures { Adds text.old at (decimal number) text.new result }
+{
+    let mut digits = [0u8; 20];
+    let first = spell(number, &mut digits);
+    put(text, at, &digits[first..])
 }
 
 // The two digits of a byte.

@@ -1,10 +1,12 @@
 // Parts of slices: copied, written, zeroed; and numbers in a wider type.
+#![tactic(auto)]
+
 ghost use Rattle.std.specs.Prelude.{◌≡◌, ◌+◌, ◌<◌, ◌≤◌, length, replicate};
 ghost use Rattle.slices.specs.Field.{field_of};
 ghost use Rattle.slices.specs.Splice.{splice, part};
 
 // The place after a field, or that the input ends before its end.
-#[derive(Drop)]
+#[derive(Clone, Copy)]
 pub enum Field {
     Next(usize),
     Short,

@@ -1,9 +1,11 @@
 // The state kinds of a vector, and the nine-state table.
+#![tactic(auto)]
+
 ghost use Rattle.std.specs.Prelude.{◌≡◌, ◌+◌, ◌*◌, ◌≤◌, ◌/◌, ◌%◌};
 ghost use Rattle.states.specs.Kind.{bits, mask, per_byte, bytes_required, state_of};
 ghost use Rattle.states.specs.Letters.{mapped, unmapped};
 
-#[derive(Drop)]
+#[derive(Clone, Copy)]
 pub enum States {
     Two,
     Nine,

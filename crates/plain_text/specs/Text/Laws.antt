@@ -1,17 +1,16 @@
 -- Laws of text in a room, and what the proofs of `text` search.
 -- Assumes nothing.
-use Rattle.std.specs.Prelude.{◌≡◌, refl, ◌⊎◌, drop, get_or}
-use Rattle.std.proofs.Common.{sym, ◌∙◌, ⊎_elim, mod-eq_of_lt, zero-add, add-one, lt-ltb, le-ltb, drop_of_length-le, length-take-le, drop-cons, Fits}
+use Rattle.std.specs.Prelude.{◌≡◌, refl, drop, get_or}
+use Rattle.std.proofs.Common.{sym, ◌∙◌, ⊎_elim, zero-add, add-one, lt-ltb, le-ltb, drop_of_length-le, length-take-le, drop-cons, Fits}
 use Rattle.std.proofs.Math.Path.{ap}
 use Prim.Native.Nat.{ℕ, zero, suc, ◌+◌, ◌-◌, ◌*◌, ◌/◌, ◌%◌, ◌^◌, ◌≤◌, ◌<◌, min}
 use mathlib.Core.List.{List, [], ◌∷◌, ◌++◌, append_assoc, append-nil}
-use Rattle.std.proofs.Math.Nat.{one-le-pow, pow-le-pow_right, pow-succ'}
+use Rattle.std.proofs.Math.Nat.{pow-succ'}
 use native.Mathlib.Omega.{arith}
-use Rattle.std.proofs.Math.ListN.{length, take, length-append, length-take}
+use Rattle.std.proofs.Math.ListN.{length, set, take, length-append, length-take}
 use Rattle.std.proofs.Math.Seq.{take_all, take-nil, take-append-add}
-use Rattle.std.proofs.lemmas.List.{take-append-le}
+use Rattle.std.proofs.lemmas.List.{take-append-le, length-set, drop-set}
 use Rattle.std.specs.Int.{w64}
-use Rattle.io.specs.Digits.{last_digits, IsDigitCount}
 use Rattle.slices.specs.Choice.{le_or_lt}
 use Rattle.slices.specs.Splice.{splice, part}
 use Rattle.slices.specs.Splice.Laws.{splice_nil, splice_splice, length_splice}
@@ -104,31 +103,70 @@ module _ (t bs : List ℕ) (at : ℕ) where
 
 -- ---- digits
 
-decimal_go : (k most n : ℕ) → k ≤ most → 1 ≤ k → n < 10 ^ k → (1 < k → 10 ^ (k - 1) ≤ n) → last_digits 10 k n ≡ decimal_of most n
-unfolding digit decimal_of
-decimal_go zero most n m l h f = absurd (omega arith)
-decimal_go (suc k) zero n m l h f = absurd (omega arith)
-decimal_go (suc zero) (suc most) n m l h f = rw (mod-eq_of_lt {n = n} {m = 10} h, lt-ltb n 10 h)
-decimal_go (suc (suc k)) (suc most) n m l h f =
-    let one : 10 ^ suc k ≡ 10 * 10 ^ k = pow-succ' 10 k in
-    let two : 10 ^ suc (suc k) ≡ 10 * 10 ^ suc k = pow-succ' 10 (suc k) in
-    let some : 1 ≤ 10 ^ k = one-le-pow k 10 (omega arith) in
-    let down : suc (suc k) - 1 ≡ suc k = omega arith in
-    let low : 10 ^ suc k ≤ n = rw down at (f (omega arith)) in
-    let down' : suc k - 1 ≡ k = omega arith in
-    rw (le-ltb n 10 (omega arith), decimal_go (suc k) most (n / 10) (omega arith) (omega arith) (omega arith) (λ o. rw down' (omega arith)))
+decimal_more : (m n : ℕ) → 10 ≤ n → decimal_of (suc m) n ≡ decimal_of m (n / 10) ++ (digit (n % 10) ∷ [])
+unfolding decimal_of
+decimal_more m n h = rw (le-ltb n 10 h)
 
-twenty : (n k : ℕ) → Fits w64 n → (1 < k → 10 ^ (k - 1) ≤ n) → k ≤ 20
-twenty n k b f =
-    ⊎_elim (λ (h : k ≤ 20). h)
-    (λ (h : 20 < k).
-    let up : 10 ^ 20 ≤ 10 ^ (k - 1) = pow-le-pow_right {n = 10} (omega arith) {i = 20} {j = k - 1} (omega arith) in
-    let low : 10 ^ (k - 1) ≤ n = f (omega arith) in absurd (omega arith)) (le_or_lt k 20)
+decimal_last : (m n : ℕ) → n < 10 → decimal_of (suc m) n ≡ digit n ∷ []
+unfolding decimal_of
+decimal_last m n h = rw (lt-ltb n 10 h)
 
-module _ (n k : ℕ) where
-  pub decimal_is : k ≤ 20 → 1 ≤ k → n < 10 ^ k → (1 < k → 10 ^ (k - 1) ≤ n) → last_digits 10 k n ≡ decimal n
-  unfolding decimal
-  decimal_is m l h f = decimal_go k 20 n m l h f
+-- the digits of `n` from place `at` on are written, and those of `left` are to come before them
+pub record Spelling (n : ℕ) (d : List ℕ) (at left : ℕ) : Type 0 where
+  pub some : 1 ≤ at
+  pub fits : left < 10 ^ at
+  pub room : at ≤ length d
+  pub rest : decimal_of at left ++ drop at d ≡ decimal n
+
+pub spelling_none : {n : ℕ} {d : List ℕ} → Fits w64 n → 20 ≡ length d → Spelling n d 20 n
+unfolding decimal
+spelling_none {n} {d} f l =
+    record {
+      some = omega arith;
+      fits = omega arith;
+      room = omega arith;
+      rest = rw (drop_of_length-le d {i = 20} (omega arith), append-nil (decimal_of 20 n));
+    }
+
+two_of : (at left : ℕ) → left < 10 ^ at → 10 ≤ left → 2 ≤ at
+two_of zero left f h = absurd (omega arith)
+two_of (suc zero) left f h = absurd (omega arith)
+two_of (suc (suc m)) left f h = omega arith
+
+spelling_step : (m : ℕ) {n left x : ℕ} {d : List ℕ} → Spelling n d (suc m) left → 10 ≤ left → x ≡ digit (left % 10) → Spelling n (set d m x) m (left / 10)
+spelling_step m {n} {left} {x} {d} c h e =
+    let up : 10 ^ suc m ≡ 10 * 10 ^ m = pow-succ' 10 m in
+    let lt : m < length d = omega (arith, c.room) in
+    let two : 2 ≤ suc m = two_of (suc m) left c.fits h in
+    let old : (decimal_of m (left / 10) ++ (digit (left % 10) ∷ [])) ++ drop (suc m) d ≡ decimal n = rw (decimal_more m left h) at c.rest in
+    record {
+      some = omega arith;
+      fits = omega (arith, c.fits);
+      room = rw (length-set d m x) (omega arith);
+      rest = rw (drop-set d m x lt, add-one m, e) (rw (append_assoc (decimal_of m (left / 10)) (digit (left % 10) ∷ []) (drop (suc m) d)) at old);
+    }
+
+spelling_first : (m : ℕ) {n left x : ℕ} {d : List ℕ} → Spelling n d (suc m) left → left < 10 → x ≡ digit left → drop m (set d m x) ≡ decimal n
+spelling_first m {n} {left} {x} {d} c h e =
+    let lt : m < length d = omega (arith, c.room) in
+    let old : (digit left ∷ []) ++ drop (suc m) d ≡ decimal n = rw (decimal_last m left h) at c.rest in
+    rw (drop-set d m x lt, add-one m, e) old
+
+module _ {n at left : ℕ} {d : List ℕ} (c : Spelling n d at left) where
+  pub spelling_at : 1 ≤ at
+  spelling_at = c.some
+
+  pub spelling_in : at - 1 < length d
+  spelling_in = omega (arith, c.some, c.room)
+
+  down : Spelling n d (suc (at - 1)) left
+  down = let e : at ≡ suc (at - 1) = omega (arith, c.some) in rw e at c
+
+  pub spelling_on : 10 ≤ left → {x : ℕ} → x ≡ digit (left % 10) → Spelling n (set d (at - 1) x) (at - 1) (left / 10)
+  spelling_on h e = spelling_step (at - 1) down h e
+
+  pub spelling_all : left < 10 → {x : ℕ} → x ≡ digit left → drop (at - 1) (set d (at - 1) x) ≡ decimal n
+  spelling_all h e = spelling_first (at - 1) down h e
 
 -- ---- bytes in hex
 
@@ -169,17 +207,13 @@ pub digit_high : {d : ℕ} → 10 ≤ d → 87 + d ≡ digit d
 unfolding digit
 digit_high {d} h = rw (le-ltb d 10 h)
 
-module _ {t t' : List ℕ} {at at' : ℕ} (d : List ℕ) (n k : ℕ) where
-  pub adds_decimal : Adds t at (take k d) t' at' → take k d ≡ last_digits 10 k n → Fits w64 n → IsDigitCount 10 1 n k → Adds t at (decimal n) t' at'
-  adds_decimal a e m f = rw (← decimal_is n k (twenty n k m f.2) f.0 f.1 f.2, ← e) a
-
 module _ {t t' : List ℕ} {at at' x y : ℕ} (b : ℕ) where
   pub adds_pair : Adds t at (x ∷ y ∷ []) t' at' → x ≡ digit (b / 16) → y ≡ digit (b % 16) → Adds t at (digit (b / 16) ∷ digit (b % 16) ∷ []) t' at'
   adds_pair a p q = rw (← p, ← q) a
 
 pub ruleset digit_laws = (digit_low, digit_high)
 
-pub ruleset decimal_laws = (adds_decimal)
+pub ruleset spell_laws = (spelling_none, spelling_at, spelling_in, spelling_on, spelling_all)
 
 pub ruleset byte_laws = (adds_pair)
 

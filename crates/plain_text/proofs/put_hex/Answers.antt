@@ -1,0 +1,10 @@
+-- Written by tools/proof-answers from proofs.map.
+use Rattle.std.proofs.Common.{rules}
+use Rattle.plain_text.specs.Text.Laws.{hex_laws}
+use Rattle.plain_text.proofs.put_hex.Goals as goal
+
+pub loop-i-preserved : goal.loop-i-preserved
+loop-i-preserved c = search (hex_laws, rules)
+
+pub returns : goal.returns
+returns c = search (hex_laws, rules)
