@@ -2,24 +2,19 @@
 -- `history_of early t acts v` is vector v's part of `happens early t (begin t) acts`: its events are those labelled with v.
 -- An event owns a write where it is the first event after it: `Waits x a` says that no event follows the write x in `a`.
 -- Assumes nothing.
-use Rattle.std.specs.Prelude.{◌≡◌, ◌↔◌, Bool, true, List, [], ◌∷◌, ◌++◌, map, ℕ, ◌<◌, length, get_or, replicate}
-use Rattle.rules.specs.Vector.{Write, Cause, rewritten, complete, ended, Item, wrote, shown, acts_early}
-use Rattle.rules.specs.Gather.{Tables, width, Good, Act, time, step_end, ends, begin, elem, happens, told}
+use Rattle.std.specs.Prelude.{◌≡◌, ◌↔◌, Bool, true, List, [], ◌∷◌, ◌++◌, map, ℕ, ◌<◌, length, get_or}
+use Rattle.rules.specs.Vector.{Write, Cause, rewritten, complete, ended, Item, wrote, shown}
+use Rattle.rules.specs.Gather.{Tables, width, Act, time, step_end, ends, begin, elem, happens, told}
 use Rattle.rules.specs.Gather.Laws.{Distinct, state_after}
-use Rattle.rules.specs.Gather.Own.{nothing_lost_of}
-use Rattle.rules.specs.Gather.Echo
 use Rattle.rules.specs.Gather.Echo.{echo, echoes}
 use Rattle.rules.specs.Gather.Firsts.{firsts}
 use Rattle.rules.specs.Gather.Order.{marked, end_events, written, before_end}
 use Rattle.rules.specs.History.{is_event, writes_bit, Without, heard}
-use Rattle.rules.specs.History.Laws.{IsFirst, first_is_one, Waits}
-use Rattle.rules.specs.Owned.{Owned, Inside}
+use Rattle.rules.specs.History.Laws.{IsFirst, Waits}
 use Rattle.rules.specs.Owned.Laws.{EventFirst}
-use Rattle.rules.specs.Literal
 use Rattle.rules.specs.Literal.{ByRewrite, ByCompletion, ByEnd}
-use Rattle.rules.specs.Steps.{Stepped, Writes}
-use Rattle.rules.specs.Steps.Owned.{history_of, owned_steps, inside_history}
-use Rattle.rules.specs.Steps.Ends
+use Rattle.rules.specs.Steps.{Writes}
+use Rattle.rules.specs.Steps.Owned.{history_of}
 use Rattle.rules.specs.Steps.Ends.{StepOf}
 
 -- `early` is rule (c)'s test of the width
@@ -61,36 +56,3 @@ pub record Demand3 (early : ℕ → Bool) (t : Tables) (acts : List Act) : Type 
   pub who_ends : (earlier : List Act) (u : ℕ) (ws rest : List Act) → StepOf acts earlier u ws rest → (v : ℕ)
       → (elem v (marked (before_end early t (begin t) earlier u ws).vecs (firsts (written t ws))) ≡ true) ↔ ((x : Write) × Waits x (history_of early t (earlier ++ time u ∷ ws) v))
   pub ends_once : (earlier : List Act) (u : ℕ) (ws rest : List Act) → StepOf acts earlier u ws rest → Distinct (marked (before_end early t (begin t) earlier u ws).vecs (firsts (written t ws)))
-
-module _ (early : ℕ → Bool) (t : Tables) (good : Good t) (acts : List Act) (steps : Stepped acts) where
-  meets : (v : ℕ) → Owned (early (width t v)) (width t v) (replicate (width t v) 0) [] (history_of early t acts v)
-  meets v = owned_steps early t good v acts steps
-
-  bits : (v : ℕ) → Inside (width t v) (heard (history_of early t acts v))
-  bits v = inside_history early t good v acts
-
-  -- in any mode
-  pub demand3_in : Demand3 early t acts
-  demand3_in = record {
-    first_event = λ v. Literal.first_event _ _ _ (meets v) (bits v);
-    one_event = λ v a x b e. first_is_one b;
-    owns_some = λ v. Literal.owns_some _ _ _ (meets v) (bits v);
-    one_value = λ v. Literal.one_value _ _ _ (meets v) (bits v);
-    shows_all = λ v. Literal.shows_all _ _ _ (meets v) (bits v);
-    shows_last = λ v. Literal.shows_last _ _ _ (meets v) (bits v);
-    shows_previous = λ v. Literal.shows_previous _ _ _ (meets v) (bits v);
-    shows_zero = λ v. Literal.shows_zero _ _ _ (meets v) (bits v);
-    made_by_a = λ v. Literal.made_by_a _ _ _ (meets v) (bits v);
-    made_by_c = λ v. Literal.made_by_c _ _ _ (meets v) (bits v);
-    made_at_end = λ v. Literal.made_at_end _ _ _ (meets v) (bits v);
-    nothing_lost = Echo.nothing_lost early t (begin t) acts;
-    nothing_lost_of = λ v. nothing_lost_of early t v acts;
-    every_end = Ends.every_end early t acts steps;
-    at_end = Ends.at_end early t acts steps;
-    who_ends = λ earlier u ws rest step. Ends.who_ends early t acts steps earlier u ws rest step good;
-    ends_once = Ends.ends_once early t acts steps;
-  }
-
--- document 01's mode: "the width is at most 7 or a multiple of 8"
-pub demand3 : (t : Tables) → Good t → (acts : List Act) → Stepped acts → Demand3 acts_early t acts
-demand3 = demand3_in acts_early

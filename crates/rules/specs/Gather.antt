@@ -4,7 +4,6 @@
 use Rattle.std.specs.Prelude.{ℕ, zero, suc, ◌+◌, ◌-◌, ◌≤◌, ◌≡◌, Bool, false, cond, ◌||◌, List, [], ◌∷◌, ◌++◌, map, eqb}
 use Rattle.rules.specs.Vector.{Write, Op, start, put, stop, ended, Item, began, over, Vec, any, fresh, fires, act}
 pub mod Laws
-pub mod Own
 pub mod Echo
 pub mod Firsts
 pub mod Order
@@ -89,14 +88,14 @@ happens early t s [] = []
 happens early t s (a ∷ acts) = (does early t s a).0 ++ happens early t (does early t s a).1 acts
 
 -- one vector's part of what happens, and of what the input says
-pub own : ℕ → List Happening → List Item
+unfoldable pub own : ℕ → List Happening → List Item
 own v [] = []
 own v (at u ∷ h) = began u ∷ own v h
 own v (single i x p ∷ h) = own v h
 own v (of u i ∷ h) = cond (eqb v u) (i ∷ own v h) (own v h)
 own v (ends ∷ h) = over ∷ own v h
 
-pub told : Tables → ℕ → List Act → List Op
+unfoldable pub told : Tables → ℕ → List Act → List Op
 told t v [] = []
 told t v (time u ∷ acts) = start u ∷ told t v acts
 told t v (write i x p ∷ acts) = cond (eqb (t.vector i) (suc v)) (put (bit_write t v i x p) ∷ told t v acts) (told t v acts)

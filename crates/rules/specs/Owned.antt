@@ -10,11 +10,11 @@ pub mod Laws
 pub mod Mistakes
 
 -- the latest write of a bit
-pub latest : ℕ → List Write → Option Write
+unfoldable pub latest : ℕ → List Write → Option Write
 latest b [] = none
 latest b (x ∷ ws) = cond (eqb b x.bit) (some x) (latest b ws)
 
-pub value_or : ℕ → Option Write → ℕ
+unfoldable pub value_or : ℕ → Option Write → ℕ
 value_or d none = d
 value_or d (some x) = x.value
 
@@ -33,7 +33,7 @@ pub record Owner (early : Bool) (w : ℕ) (before : List ℕ) (waiting : List Wr
   pub rule : Allowed early w waiting c next
 
 -- every write waits for the first event after it, which owns it; at the end of a step, and of the history, none waits
-pub Owned : Bool → ℕ → List ℕ → List Write → List Item → Type 0
+unfoldable pub Owned : Bool → ℕ → List ℕ → List Write → List Item → Type 0
 Owned early w before waiting [] = waiting ≡ []
 Owned early w before waiting (began t ∷ h) = Owned early w before waiting h
 Owned early w before waiting (wrote x ∷ h) = Owned early w before (x ∷ waiting) h
@@ -41,7 +41,7 @@ Owned early w before waiting (shown c v ∷ h) = Owner early w before waiting c 
 Owned early w before waiting (over ∷ h) = (waiting ≡ []) × Owned early w before [] h
 
 -- every write names a bit of the vector
-pub Inside : ℕ → List Op → Type 0
+unfoldable pub Inside : ℕ → List Op → Type 0
 Inside w [] = Unit {0}
 Inside w (start t ∷ ops) = Inside w ops
 Inside w (put x ∷ ops) = (x.bit < w) × Inside w ops

@@ -8,13 +8,15 @@ use Prim.Native.Nat.{ℕ, zero, suc, ◌<◌}
 use Rattle.std.proofs.Math.Dec.{eqb-zero-suc, eqb-suc-suc}
 use Rattle.std.proofs.lemmas.Bool.{eqb-false}
 use Rattle.rules.specs.Vector.{Op, start, put, stop, ended, Item, Vec, fresh, act, history}
-use Rattle.rules.specs.Vector.Laws.{by_test, end_clears, vec_after, history_append, after_append as vec-append}
+use Rattle.rules.specs.Vector.Laws.{vec_after}
+use Rattle.rules.proofs.Vector.Laws.{by_test, end_clears, history_append, after_append as vec-append}
 use Rattle.rules.specs.Gather.{Tables, width, Good, Act, time, write, step_end, Happening, ends, State, begin, end_all, bit_write, to_vector, toward, does, happens, own, told}
-use Rattle.rules.specs.Gather.Laws.{with_same, with_other, own_append, own_same, own_other, end_own, end_unmarked, Sound, sound_begin, sound_does, covered, state_after}
+use Rattle.rules.specs.Gather.Laws.{Sound, state_after}
+use Rattle.rules.proofs.Gather.Laws.{with_same, with_other, own_append, own_same, own_other, end_own, end_unmarked, sound_begin, sound_does, covered}
 use Rattle.rules.specs.Owned.{Inside}
-use Rattle.rules.specs.Owned.Laws.{inside_nil, inside_start, inside_put, inside_stop}
+use Rattle.rules.proofs.Owned.Laws.{inside_nil, inside_start, inside_put, inside_stop}
 use Rattle.rules.specs.History.{heard}
-use Rattle.rules.specs.History.Laws.{heard_history}
+use Rattle.rules.proofs.History.Laws.{heard_history}
 use Rattle.slices.specs.Choice.{cond_ind}
 
 -- ---- what a vector is told

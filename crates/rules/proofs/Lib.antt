@@ -1,0 +1,9 @@
+pub mod Demand3
+pub mod Gather
+pub mod History
+pub mod Literal
+pub mod Once
+pub mod Owned
+pub mod Steps
+pub mod Swapped
+pub mod Vector

@@ -1,0 +1,4 @@
+pub mod Latest
+pub mod Laws
+pub mod Mistakes
+pub mod Tracks
