@@ -1,4 +1,6 @@
 // Change records: what stands at a place.
+#![tactic(auto)]
+
 ghost use Rattle.std.specs.Prelude.{◌≡◌, ◌+◌, ◌≤◌, ◌<◌, length};
 ghost use Rattle.slices.specs.Splice.{part};
 ghost use Rattle.numbers.specs.Fixed.{big};
@@ -13,7 +15,7 @@ use section_heads::{Item, Phase, Said, goes, standing};
 use values::{Read, read_narrow};
 
 // What a change record says and the place after it, or the input's end between steps, or a refusal.
-#[derive(Drop)]
+#[derive(Clone, Copy)]
 pub enum Change {
     Time(u64, usize),
     Write { id: usize, value: u64, next: usize },

@@ -1,4 +1,6 @@
 // All checks that come before a reading, in their order.
+#![tactic(auto)]
+
 ghost use Rattle.std.specs.Prelude.{◌≡◌};
 ghost use Rattle.tables.specs.Lists.{lists};
 ghost use Rattle.tables.specs.Checks.{and_then, check3, check4, check5, check6, checks};

@@ -1,4 +1,6 @@
 // Events appended to the event room and the value room, where they fit.
+#![tactic(auto)]
+
 ghost use Rattle.std.specs.Prelude.{◌≡◌, ℕ, ◌+◌, ◌≤◌, List, [], ◌∷◌, length};
 ghost use Rattle.slices.specs.Splice.{splice};
 ghost use Rattle.records.specs.Event.{Event, record_bytes};
@@ -9,14 +11,14 @@ use slices::write_at;
 use states::States;
 
 // How much of the two rooms is used, and how many times were written.
-#[derive(Drop)]
+#[derive(Clone, Copy)]
 pub struct Counts {
     pub events: usize,
     pub values: usize,
     pub steps: u64,
 }
 
-#[derive(Drop)]
+#[derive(Clone, Copy)]
 pub enum Put {
     Done(Counts),
     // "Next event doesn't fit event or value room".

@@ -8,9 +8,7 @@ use Rattle.records.specs.declared.Record.{Record}
 use Rattle.records.specs.declared.Record.TheVariants.{Time, Value, Real}
 use Rattle.event_streams.specs.declared.Next.{Next}
 use Rattle.event_streams.specs.declared.Next.TheVariants.{Event, End, Bad}
-pub mod Laws
 pub mod Code
-pub mod Bytes
 
 -- "a body whose length the kind fixes": the length of an event record, its kind byte included; 0 for "unknown house kind"
 unfoldable pub event_length : ℕ → ℕ

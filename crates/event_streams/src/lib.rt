@@ -1,4 +1,6 @@
 // An event stream and its value buffer, read record by record.
+#![tactic(auto)]
+
 ghost use Rattle.std.specs.Prelude.{◌≡◌, ◌+◌, ◌≤◌, cond, ◌||◌, eqb, length};
 ghost use Rattle.slices.specs.Splice.{part};
 ghost use Rattle.numbers.specs.Fixed.{big};
@@ -11,7 +13,7 @@ use slices::usize_of_u32;
 use states::States;
 
 // What stands at a place of an event stream: a record and the place after it, or the stream's end, or a refusal.
-#[derive(Drop)]
+#[derive(Clone, Copy)]
 pub enum Next {
     Event(Record, usize),
     End,

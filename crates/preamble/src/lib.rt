@@ -1,4 +1,6 @@
 // The records before the section bytes: signals, vectors and the flag.
+#![tactic(auto)]
+
 ghost use Rattle.std.specs.Prelude.{◌≡◌, ◌+◌, ◌≤◌, length};
 ghost use Rattle.tables.specs.Lists.{lists};
 ghost use Rattle.preamble.specs.Preamble.{item_length, signal_at, vector_at, flag_at, whole_item, item_at};
@@ -8,7 +10,7 @@ ghost use Rattle.preamble.specs.Preamble.Loop.{Sized, Turned, Opens};
 use numbers::house::get_u32;
 
 // A record of the preamble and the place after it, or a refusal.
-#[derive(Drop)]
+#[derive(Clone, Copy)]
 pub enum Item {
     Signal {
         kind: u8,
@@ -104,7 +106,7 @@ fn item_at(s: &[u8], at: usize) -> Item
 }
 
 // How many signals and vectors the tables hold, and the place of the next record.
-#[derive(Drop)]
+#[derive(Clone, Copy)]
 struct Progress {
     signals: usize,
     vectors: usize,
@@ -112,7 +114,7 @@ struct Progress {
 }
 
 // What the preamble says: the tables, the flag, the place of the first section byte.
-#[derive(Drop)]
+#[derive(Clone, Copy)]
 pub enum Opened {
     Sections {
         signals: usize,
@@ -123,7 +125,7 @@ pub enum Opened {
     Refused(u64, usize),
 }
 
-#[derive(Drop)]
+#[derive(Clone, Copy)]
 enum Turn {
     More(Progress),
     Over(Opened),

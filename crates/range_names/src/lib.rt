@@ -1,4 +1,6 @@
 // Check 5: each id in a vector's range names that vector.
+#![tactic(auto)]
+
 ghost use Rattle.std.specs.Prelude.{◌≡◌, ◌+◌, ◌≤◌, ◌<◌, length, get_or};
 ghost use Rattle.tables.specs.Lists.{lists};
 ghost use Rattle.tables.specs.Checks.{check5};

@@ -1,4 +1,6 @@
 // The bytes of an event record: "one byte of kind, then a body whose length the kind fixes; numbers big-endian".
+#![tactic(auto)]
+
 ghost use Rattle.std.specs.Prelude.{◌≡◌, ◌+◌, ◌≤◌, [], ◌∷◌, length};
 ghost use Rattle.slices.specs.Splice.{splice};
 ghost use Rattle.records.specs.Event.{kind_of, record_bytes};
@@ -7,7 +9,7 @@ use numbers::house::{put_u32, put_u64};
 use states::States;
 
 // An event record, without the value bytes that it points to.
-#[derive(Drop)]
+#[derive(Clone, Copy)]
 pub enum Record {
     Time(u64),
     Value {

@@ -1,4 +1,6 @@
 // The working room that the tables need, and check 6.
+#![tactic(auto)]
+
 ghost use Rattle.std.specs.Prelude.{◌≡◌, ◌+◌, ◌-◌, ◌≤◌};
 ghost use Rattle.states.specs.Kind.{bytes_required};
 ghost use Rattle.states.specs.declared.States.TheVariants.{Two};

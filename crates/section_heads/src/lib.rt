@@ -1,4 +1,6 @@
 // Where a reading of sections stands, what it finds, and the heads of sections. Nothing of memory or vectors.
+#![tactic(auto)]
+
 ghost use Rattle.std.specs.Prelude.{◌≡◌};
 ghost use Rattle.section_heads.specs.Heads.{standing, goes, passes, begins, stops, bad};
 ghost use Rattle.section_heads.specs.Heads.{open_snapshot, open_cycle, open_directory, open_tailer};
@@ -8,7 +10,7 @@ use numbers::marks::is_mark;
 use slices::{Field, field_at};
 use values::How;
 
-#[derive(Drop)]
+#[derive(Clone, Copy)]
 pub enum Phase {
     // At a section's mark.
     Mark,
@@ -25,7 +27,7 @@ pub enum Phase {
 }
 
 // Where a reading stands; in a step, at which time.
-#[derive(Drop)]
+#[derive(Clone, Copy)]
 pub struct Stand {
     pub phase: Phase,
     pub id: usize,
@@ -33,7 +35,7 @@ pub struct Stand {
 }
 
 // What bytes say; the input's end; or a refusal's number.
-#[derive(Drop)]
+#[derive(Clone, Copy)]
 pub enum Said {
     Nothing,
     Time(u64),
@@ -44,7 +46,7 @@ pub enum Said {
 }
 
 // What was found at a place: the place after it, or of a refusal, what it says, and where the reading stands then.
-#[derive(Drop)]
+#[derive(Clone, Copy)]
 pub struct Item {
     pub at: usize,
     pub said: Said,

@@ -1,4 +1,6 @@
 // Section bytes, one item at a time: what section reading, reading back and explaining share. Nothing of memory or vectors.
+#![tactic(auto)]
+
 ghost use Rattle.std.specs.Prelude.{◌≡◌, ◌≤◌, length};
 ghost use Rattle.values.specs.Value.{value};
 ghost use Rattle.section_scan.specs.Sections.{next_time};

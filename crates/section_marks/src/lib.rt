@@ -1,4 +1,6 @@
 // What stands at a mark: an end mark, a section with its head, an entry of a directory. Nothing of memory or vectors.
+#![tactic(auto)]
+
 ghost use Rattle.std.specs.Prelude.{◌≡◌};
 ghost use Rattle.section_heads.specs.Heads.{end_item, opens, section_item};
 ghost use Rattle.section_heads.specs.Heads.{entry_item};

@@ -1,4 +1,6 @@
 // The next id and the next time of section bytes, by their deltas; and what an item is, the definitions.
+#![tactic(auto)]
+
 ghost use Rattle.std.specs.Prelude.{◌≡◌, ◌≤◌, length};
 ghost use Rattle.tables.specs.Lists.{nth};
 ghost use Rattle.section_scan.specs.Sections.{next_time};
@@ -10,7 +12,7 @@ use section_heads::Phase;
 use values::{Read, read_signed, read_unsigned};
 
 // The place after a delta and the next time of a cycle; or the place after the cycle's last delta; or a refusal's place and number.
-#[derive(Drop)]
+#[derive(Clone, Copy)]
 pub enum NextTime {
     Time(usize, u64),
     End(usize),

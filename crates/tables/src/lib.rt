@@ -1,4 +1,6 @@
 // The signal and vector tables, and the checks that come before any reading.
+#![tactic(auto)]
+
 ghost use Rattle.std.specs.Prelude.{◌≡◌, ◌+◌, ◌<◌, length};
 ghost use Rattle.tables.specs.Lists.{lists};
 ghost use Rattle.tables.specs.Checks.{unless, within_limit, good_vector, suits, good_signal, check1, check2, check3, check4};
@@ -6,7 +8,7 @@ ghost use Rattle.tables.specs.Good.{Sized};
 
 use slices::usize_of_u32;
 
-#[derive(Drop)]
+#[derive(Clone, Copy)]
 pub enum Check {
     Passed,
     // The number of the refusal, and its place.

@@ -1,4 +1,6 @@
 // Values of signals, read from section bytes: one reader for each kind.
+#![tactic(auto)]
+
 ghost use Rattle.std.specs.Prelude.{◌≡◌};
 ghost use Rattle.states.specs.Letters.{mapped};
 ghost use Rattle.values.specs.Value.{number, unsigned, signed, byte_up_to, big_real, real, narrow, value};
@@ -9,14 +11,14 @@ use slices::{Field, field_at, u64_of_byte};
 use states::std_logic;
 
 // How bytes are read: by the flag, and reals too or little-endian whatever it says.
-#[derive(Drop)]
+#[derive(Clone, Copy)]
 pub struct How {
     pub big_endian: bool,
     pub reals_by_flag: bool,
 }
 
 // What was read and the place after it, or a refusal's number and place.
-#[derive(Drop)]
+#[derive(Clone, Copy)]
 pub enum Read {
     Value(u64, usize),
     Bad(u64, usize),

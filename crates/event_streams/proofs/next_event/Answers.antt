@@ -1,0 +1,10 @@
+-- Written by tools/proof-answers from proofs.map.
+use Rattle.std.proofs.Common.{rules}
+use Rattle.event_streams.proofs.Stream.Code.{next_laws}
+use Rattle.event_streams.proofs.next_event.Goals as goal
+
+pub returns-then-s-at : goal.returns-then-s-at
+returns-then-s-at c = search (next_laws, rules)
+
+pub returns-then-size-eq0 : goal.returns-then-size-eq0
+returns-then-size-eq0 c = search (next_laws, rules)

@@ -1,0 +1,13 @@
+-- Written by tools/proof-answers from proofs.map.
+use Rattle.std.proofs.Common.{rules}
+use Rattle.section_heads.specs.Heads.Code.{cycle_laws}
+use Rattle.section_heads.proofs.open_cycle.Goals as goal
+
+pub read_i64-requires : goal.read_i64-requires
+read_i64-requires c = search (cycle_laws, rules)
+
+pub returns-in-Next : goal.returns-in-Next
+returns-in-Next c = search (cycle_laws, rules)
+
+pub returns-in-Short : goal.returns-in-Short
+returns-in-Short c = search (cycle_laws, rules)
