@@ -1,4 +1,6 @@
 // Writes that follow one another along the bits of a vector that was looked up, and make no event.
+#![tactic(auto)]
+
 ghost use Rattle.std.specs.Prelude.{◌≡◌};
 ghost use Rattle.along.specs.Follows.{is_near, FollowAsks, Followed, AlongAsks, Ran};
 
@@ -9,7 +11,7 @@ use states::States;
 use vecmarks::{VecBufferInfo, is_quiet};
 
 // The last bit written, and the place after its value.
-#[derive(Drop)]
+#[derive(Clone, Copy)]
 pub struct Reached {
     pub left: usize,
     pub at: usize,

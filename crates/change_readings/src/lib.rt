@@ -1,4 +1,6 @@
 // Change reading: what the records say, one at a time, goes through the gatherer, as the items of sections do.
+#![tactic(auto)]
+
 ghost use Rattle.std.specs.Prelude.{◌≡◌};
 ghost use Rattle.gather.specs.Follows.{Asks, Runs};
 ghost use Rattle.changes.specs.Changes.{scan_changes};
@@ -14,14 +16,14 @@ use section_heads::Said;
 use vector_turns::next_step;
 
 // Where a reading stands: inside a step or between steps, and at which byte.
-#[derive(Drop)]
+#[derive(Clone, Copy)]
 struct Place {
     inside: bool,
     at: usize,
 }
 
 // How a record's turn ended.
-#[derive(Drop)]
+#[derive(Clone, Copy)]
 enum End {
     // The reading goes on from a place.
     More,
@@ -31,7 +33,7 @@ enum End {
     Out,
 }
 
-#[derive(Drop)]
+#[derive(Clone, Copy)]
 struct Step {
     end: End,
     inside: bool,

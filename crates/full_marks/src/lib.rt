@@ -1,4 +1,6 @@
 // Rule (c)'s test, on the mask bytes of one vector.
+#![tactic(auto)]
+
 ghost use Rattle.std.specs.Prelude.{◌≡◌, ◌+◌, ◌-◌, ◌<◌, ◌≤◌, ◌^◌, length};
 ghost use Rattle.slices.specs.Splice.{part};
 ghost use Rattle.vecmarks.specs.Info.{Inside, marks_of};

@@ -18,8 +18,8 @@ use Rattle.event_rooms.specs.Out.{Rooms, Out, empty}
 use Rattle.event_rooms.specs.Out.Laws.{Written}
 use Rattle.vecstarts.specs.Numbers.{layout_from, Shapes, filled}
 use Rattle.vecstarts.specs.Numbers.Laws.{layout_is}
-use Rattle.vecbuffer.specs.Stands.Vectors.{get_d_clear}
-use Rattle.vecbuffer.specs.Stands.Begin.{stands_first}
+use Rattle.vecbuffer.proofs.Stands.Vectors.{get_d_clear}
+use Rattle.vecbuffer.proofs.Stands.Begin.{stands_first}
 use Rattle.gather.specs.Run.{gathers}
 use Rattle.gather.specs.Memory.{Mem, mem_of, Tabled, Clean, HoldsAt, Holds}
 use Rattle.gather.specs.declared.Gathered.{Gathered}

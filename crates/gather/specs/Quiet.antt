@@ -12,8 +12,8 @@ use Rattle.rules.specs.Gather.{State, with, width, write}
 use Rattle.event_rooms.specs.Out.{Rooms, Out, append_all}
 use Rattle.vecmarks.specs.Info.{info_at, is_marked, is_second, is_quiet, with_bit}
 use Rattle.vecbuffer.specs.Stands.{flags_at, storing}
-use Rattle.vecbuffer.specs.Stands.Vectors.{stored_marks}
-use Rattle.vecbuffer.specs.Stands.Laws.{second_is, stands_quiet, stays_quiet, quiet_bit}
+use Rattle.vecbuffer.proofs.Stands.Vectors.{stored_marks}
+use Rattle.vecbuffer.proofs.Stands.Laws.{second_is, stands_quiet, stays_quiet, quiet_bit}
 use Rattle.gather.specs.Run.{gathers}
 use Rattle.gather.specs.Memory.{mem_of, HoldsAt}
 use Rattle.gather.specs.Memory.Laws.{clean_stored}

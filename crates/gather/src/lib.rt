@@ -1,4 +1,6 @@
 // The gatherer over the lent memory: what it keeps between parts of the input, and a vector looked up.
+#![tactic(auto)]
+
 ghost use Rattle.std.specs.Prelude.{◌≡◌};
 ghost use Rattle.gather.specs.Writes.{vec_info_from, Looks};
 
@@ -7,7 +9,7 @@ use vecmarks::VecBufferInfo;
 use vecstarts::{flags_of, info_of};
 
 // Which vectors are listed in the open step, from the number `ended` to `listed` of the list, and how much of the two rooms is used.
-#[derive(Drop)]
+#[derive(Clone, Copy)]
 pub struct Gathered {
     pub ended: usize,
     pub listed: usize,
@@ -15,14 +17,14 @@ pub struct Gathered {
 }
 
 // After a part of the input: the next unread byte, or a refusal's number and place.
-#[derive(Drop)]
+#[derive(Clone, Copy)]
 pub enum Part {
     Went(usize, Gathered),
     Out(u64, usize),
 }
 
 // A vector, looked up once: its index, where its bytes and the flags of all vectors lie, and its reference.
-#[derive(Drop)]
+#[derive(Clone, Copy)]
 pub struct VecInfo {
     pub v: usize,
     pub info: VecBufferInfo,

@@ -1,4 +1,6 @@
 // What is done with an item among the values of a step: a turn; nothing more, where the step's end has come to each vector; or it is refused.
+#![tactic(auto)]
+
 ghost use Rattle.std.specs.Prelude.{◌≡◌};
 ghost use Rattle.item_turns.specs.Lent.{tables, lent, before, after};
 ghost use Rattle.item_acts.specs.Acts.{stage_of, moved_by, ActAsks, Acts};
@@ -9,7 +11,7 @@ use section_heads::{Item, Said};
 use vector_turns::all_ended;
 
 // What is to be done with an item.
-#[derive(Drop)]
+#[derive(Clone, Copy)]
 enum Stage {
     // A turn.
     More,
@@ -19,7 +21,7 @@ enum Stage {
 }
 
 // How it ended.
-#[derive(Drop)]
+#[derive(Clone, Copy)]
 pub enum Tag {
     // The item is done: the reading goes on from a place and an id.
     On,
@@ -31,7 +33,7 @@ pub enum Tag {
     Out,
 }
 
-#[derive(Drop)]
+#[derive(Clone, Copy)]
 pub struct Acted {
     pub tag: Tag,
     pub at: usize,

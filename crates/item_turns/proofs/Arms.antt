@@ -1,12 +1,9 @@
 -- The last arms of matches on what is said, which name no variant: what they leave.
 -- Assumes nothing.
 use Prim.Native.Nat.{ℕ}
-use mathlib.Core.Path.{◌≡◌}
+use mathlib.Core.Path.{◌≡◌, refl}
 use mathlib.Core.Bool.{true, false≢true}
-use mathlib.Core.List.{List, [], ◌∷◌}
-use types.Run.{OneOf, miss}
-use denote.Enum.Declared.{tag_of}
-use Rattle.section_heads.specs.contracts.Said.{the_type}
+use mathlib.Core.List.{List}
 use Rattle.section_heads.specs.declared.Said.{Said}
 use Rattle.section_heads.specs.declared.Said.TheVariants.{Nothing, Time, Write, StepEnd, Over, Bad}
 use Rattle.section_heads.specs.declared.Item.{Item}
@@ -17,15 +14,15 @@ use Rattle.item_turns.specs.declared.Went.{Went}
 use Rattle.item_turns.specs.Turn.{PlainAsks, PlainTurns}
 use Rattle.item_turns.specs.Turn.Code as code
 
-no_write : (a : Said) → is_write a ≡ true → OneOf (0 ∷ 1 ∷ 3 ∷ 4 ∷ 5 ∷ []) (tag_of the_type a) → ⊥
+no_write : (a : Said) → is_write a ≡ true → ((v id : ℕ) → a ≡ Write v id → ⊥) → ⊥
 no_write Nothing e h = false≢true e
 no_write (Time u) e h = false≢true e
-no_write (Write v id) e h = miss (0 ∷ 1 ∷ 3 ∷ 4 ∷ 5 ∷ []) 2 tt h
+no_write (Write v id) e h = h v id refl
 no_write StepEnd e h = false≢true e
 no_write Over e h = false≢true e
 no_write (Bad n) e h = false≢true e
 
-pub other_plain : {t : Lists} {events values : List ℕ} {c : Gathered} {y : Item} → PlainAsks t events values c y → OneOf (0 ∷ 1 ∷ 3 ∷ 4 ∷ 5 ∷ []) (tag_of the_type y.said) → {events' values' : List ℕ} {u : Went} → PlainTurns t c y events values events' values' u
+pub other_plain : {t : Lists} {events values : List ℕ} {c : Gathered} {y : Item} → PlainAsks t events values c y → ((v id : ℕ) → y.said ≡ Write v id → ⊥) → {events' values' : List ℕ} {u : Went} → PlainTurns t c y events values events' values' u
 other_plain {y = y} q h = absurd (no_write y.said q.plain h)
 
 pub ruleset plain_laws = (code.plain_laws, other_plain)

@@ -1,5 +1,7 @@
 // A turn over an item of the input: a value of a plain signal, a write to a vector with the changes that follow along it, the event that rule (a) wants
 // before a write, or the step's end of one vector. A turn that leaves its item to be done says so, and the item is read again.
+#![tactic(auto)]
+
 ghost use Rattle.std.specs.Prelude.{◌≡◌};
 ghost use Rattle.turns.specs.Turns.{Showing, Made};
 ghost use Rattle.item_turns.specs.Lent.{tables, lent, before, after};
@@ -34,7 +36,7 @@ pub const MAXS: usize = 3;
 pub const VEC_REFS: usize = 4;
 
 // How a turn ended.
-#[derive(Drop)]
+#[derive(Clone, Copy)]
 pub enum Ended {
     // The item is done: the reading goes on from a place and an id.
     On,
@@ -44,7 +46,7 @@ pub enum Ended {
     Full,
 }
 
-#[derive(Drop)]
+#[derive(Clone, Copy)]
 pub struct Went {
     pub ended: Ended,
     pub at: usize,

@@ -1,4 +1,6 @@
 // Values of signals outside vectors: an event at once, with one site for one byte and for eight.
+#![tactic(auto)]
+
 ghost use Rattle.std.specs.Prelude.{◌≡◌, [], ◌∷◌, length};
 ghost use Rattle.slices.specs.Splice.{splice};
 ghost use Rattle.tables.specs.Lists.{nth};

@@ -1,4 +1,6 @@
 // A change of one byte of delta and one of value, to a bit of a vector further on, where it makes no event: it looks no table up.
+#![tactic(auto)]
+
 ghost use Rattle.std.specs.Prelude.{◌≡◌};
 ghost use Rattle.quiet_changes.specs.Along.{is_short, short_of, Took};
 ghost use Rattle.quiet_changes.specs.Along.Code.{Down, Stored, Takes};
@@ -8,7 +10,7 @@ use states::{States, std_logic};
 use vecmarks::{VecBufferInfo, write_new};
 
 // A change of one byte of delta to a bit, by its value; or any other.
-#[derive(Drop)]
+#[derive(Clone, Copy)]
 enum Short {
     Bit(u8),
     Other,

@@ -2,10 +2,7 @@
 -- Assumes nothing.
 use Prim.Native.Nat.{ℕ}
 use mathlib.Core.Path.{◌≡◌, refl, sym, subst}
-use mathlib.Core.List.{List, [], ◌∷◌}
-use types.Run.{OneOf, miss}
-use denote.Enum.Declared.{tag_of}
-use Rattle.section_heads.specs.contracts.Said.{the_type}
+use mathlib.Core.List.{List}
 use Rattle.values.specs.declared.How.{How}
 use Rattle.section_heads.specs.declared.Stand.{Stand}
 use Rattle.section_heads.specs.declared.Said.{Said}
@@ -16,15 +13,15 @@ use Rattle.readings.specs.Heads.{HeadBy, IsHead, head_says}
 use Rattle.readings.specs.Whole as whole
 
 -- between steps nothing else is said
-head_nothing : (a : Said) (y : Stand) → HeadBy a y → OneOf (0 ∷ 2 ∷ 3 ∷ []) (tag_of the_type a) → a ≡ Nothing
-head_nothing Nothing y q h = refl
-head_nothing (Time u) y q h = absurd (miss (0 ∷ 2 ∷ 3 ∷ []) 1 tt h)
-head_nothing (Write v id) y q h = absurd q
-head_nothing StepEnd y q h = absurd q
-head_nothing Over y q h = absurd (miss (0 ∷ 2 ∷ 3 ∷ []) 4 tt h)
-head_nothing (Bad n) y q h = absurd (miss (0 ∷ 2 ∷ 3 ∷ []) 5 tt h)
+head_nothing : (a : Said) (y : Stand) → HeadBy a y → ((u : ℕ) → a ≡ Time u → ⊥) → (a ≡ Over → ⊥) → ((n : ℕ) → a ≡ Bad n → ⊥) → a ≡ Nothing
+head_nothing Nothing y q t o b = refl
+head_nothing (Time u) y q t o b = absurd (t u refl)
+head_nothing (Write v id) y q t o b = absurd q
+head_nothing StepEnd y q t o b = absurd q
+head_nothing Over y q t o b = absurd (o refl)
+head_nothing (Bad n) y q t o b = absurd (b n refl)
 
-pub other_nothing : (how : How) (s : List ℕ) (x : Stand) (i : ℕ) {y : Item} → y ≡ head_item how s x i → OneOf (0 ∷ 2 ∷ 3 ∷ []) (tag_of the_type y.said) → y.said ≡ Nothing
-other_nothing how s x i {y} e h = head_nothing y.said y.then (subst IsHead (sym e) (head_says how s x i)) h
+pub other_nothing : (how : How) (s : List ℕ) (x : Stand) (i : ℕ) {y : Item} → y ≡ head_item how s x i → ((u : ℕ) → y.said ≡ Time u → ⊥) → (y.said ≡ Over → ⊥) → ((n : ℕ) → y.said ≡ Bad n → ⊥) → y.said ≡ Nothing
+other_nothing how s x i {y} e = head_nothing y.said y.then (subst IsHead (sym e) (head_says how s x i))
 
 pub ruleset sections_laws = (whole.sections_laws, other_nothing)

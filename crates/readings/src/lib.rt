@@ -1,4 +1,6 @@
 // Section reading: between steps what the bytes say, one item at a time; and each step's time and values.
+#![tactic(auto)]
+
 ghost use Rattle.std.specs.Prelude.{◌≡◌};
 ghost use Rattle.section_scan.specs.Sections.{scan_sections};
 ghost use Rattle.gather.specs.Follows.{Asks, Runs};

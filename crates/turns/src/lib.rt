@@ -1,5 +1,7 @@
 // The gatherer's small steps over the lent memory: a write or a step's end does one thing to one vector, and says whether an event is due and whether the
 // act is over.
+#![tactic(auto)]
+
 ghost use Rattle.std.specs.Prelude.{◌≡◌};
 ghost use Rattle.turns.specs.Turns.{Left, Writing, turn_write, Unlists, turn_end, Made, Showing, show_vector};
 
@@ -10,7 +12,7 @@ use vecbuffer::{get_full_value_and_clear_changes, update_value};
 use vecmarks::{has_signal_changed, is_second_change, unlist};
 
 // What a turn did to a vector: whether an event is due, whether the act is over, and which vectors are listed then.
-#[derive(Drop)]
+#[derive(Clone, Copy)]
 pub struct Turned {
     pub due: bool,
     pub over: bool,

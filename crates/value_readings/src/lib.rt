@@ -1,5 +1,7 @@
 // The values of a step, in section reading: the loop that most of a reading's time goes to. Each turn does one thing, and one that leaves its item to be done
 // leaves the reading where it stands, so that the item is read again.
+#![tactic(auto)]
+
 ghost use Rattle.sections.specs.Item.{value_item};
 ghost use Rattle.item_acts.specs.Acts.{Acts};
 ghost use Rattle.item_turns.specs.Lent.{tables, lent, before, after};
@@ -14,14 +16,14 @@ use values::How;
 use vector_turns::next_step;
 
 // A step that is entered: how its bytes are read, and the item that said its time.
-#[derive(Drop)]
+#[derive(Clone, Copy)]
 pub struct Entered {
     pub how: How,
     pub item: Item,
 }
 
 // Where a reading stands among the values of a step, and how bytes are read there.
-#[derive(Drop)]
+#[derive(Clone, Copy)]
 struct Place {
     how: How,
     x: Stand,

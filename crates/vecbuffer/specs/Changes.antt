@@ -6,8 +6,6 @@ use Rattle.states.specs.Kind.{bits}
 use Rattle.vecmarks.specs.declared.VecBufferInfo.{VecBufferInfo}
 use Rattle.vecmarks.specs.Info.{Inside, end_of, with_value, is_marked, with_mark, without_marks, values_of}
 use Rattle.vecstarts.specs.Numbers.{listing}
-pub mod Laws
-pub mod Examples
 
 -- the room, the numbers, and how many vectors are listed
 pub data Lent : Type 0 where

@@ -9,10 +9,6 @@ use Rattle.vecmarks.specs.Info.{num, info_at, value_of, mark_of, HasValue, HasMa
 use Rattle.vecstarts.specs.Numbers.{Started, listed_in}
 use Rattle.vecbuffer.specs.Changes.{Lent, mk}
 pub mod Fields
-pub mod Order
-pub mod Vectors
-pub mod Laws
-pub mod Begin
 
 -- the flags of all vectors
 abbrev pub flags_at : Layout → VecBufferInfo

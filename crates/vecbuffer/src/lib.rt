@@ -1,4 +1,6 @@
 // The packed working room that all vectors share, and the numbers beside it: where the bytes of each vector start, and which vectors are listed.
+#![tactic(auto)]
+
 ghost use Rattle.std.specs.Prelude.{◌≡◌, false, ◌+◌};
 ghost use Rattle.vecmarks.specs.Info.{is_marked, with_mark};
 ghost use Rattle.vecstarts.specs.Numbers.{listing};

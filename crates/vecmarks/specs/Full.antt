@@ -2,8 +2,6 @@
 -- Assumes nothing.
 use Rattle.std.specs.Prelude.{ℕ, ◌-◌, ◌%◌, ◌^◌, Bool, true, cond, ◌&&◌, List, [], ◌∷◌, eqb, get_or, drop}
 pub mod Laws
-pub mod Marks
-pub mod Examples
 
 -- all bits of all bytes are set
 unfoldable pub all_full : List ℕ → Bool

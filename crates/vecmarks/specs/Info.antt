@@ -7,8 +7,6 @@ use Rattle.states.specs.Kind.{bits, per_byte, bytes_required}
 use Rattle.states.specs.Packed.{field_at, set_at, value_place}
 use Rattle.tables.specs.Layout.{Layout, value_bytes, start}
 use Rattle.vecmarks.specs.declared.VecBufferInfo.{VecBufferInfo}
-pub mod Laws
-pub mod Keeps
 
 -- a mark as a bit
 abbrev pub num : Bool → ℕ

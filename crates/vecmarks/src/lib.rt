@@ -1,4 +1,6 @@
 // The values and marks of one vector in the working room, by where its bytes lie.
+#![tactic(auto)]
+
 ghost use Rattle.std.specs.Prelude.{◌≡◌, not, cond, ◌+◌, ◌<◌, ◌^◌};
 ghost use Rattle.states.specs.declared.States.TheVariants.{Two};
 ghost use Rattle.states.specs.Kind.{bits, bytes_required};
@@ -8,7 +10,7 @@ use packed_values::{get_at, set_at};
 use states::States;
 
 // Where the bytes of a vector lie: its value bytes from `start` on, and its mask bytes behind them.
-#[derive(Drop)]
+#[derive(Clone, Copy)]
 pub struct VecBufferInfo {
     pub start: usize,
     pub bytes: usize,

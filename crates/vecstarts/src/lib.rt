@@ -1,4 +1,6 @@
 // The numbers beside the working room: where the bytes of each vector start, and which vectors are listed.
+#![tactic(auto)]
+
 ghost use Rattle.std.specs.Prelude.{◌≡◌, ◌+◌, ◌-◌, ◌<◌, ◌≤◌, length, get_or};
 ghost use Rattle.states.specs.declared.States.TheVariants.{Two};
 ghost use Rattle.states.specs.Kind.{bytes_required};

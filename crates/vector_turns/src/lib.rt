@@ -1,4 +1,6 @@
 // What an item of the input does to one vector: which vector it is for, and its turn; and when a step's end has come to each.
+#![tactic(auto)]
+
 ghost use Rattle.std.specs.Prelude.{◌≡◌, ◌-◌, eqb, get_or};
 ghost use Rattle.tables.specs.Lists.{nth};
 ghost use Rattle.turns.specs.Turns.{Left};

@@ -11,7 +11,7 @@ use Rattle.std.proofs.Math.ListN.{length}
 use Rattle.states.specs.declared.States.{States}
 use Rattle.vecmarks.specs.declared.VecBufferInfo.{VecBufferInfo}
 use Rattle.vecmarks.specs.Info.{Inside, is_quiet}
-use Rattle.vecmarks.specs.Info.Keeps.{length_value, length_mark, inside_as}
+use Rattle.vecmarks.proofs.Info.Keeps.{length_value, length_mark, inside_as}
 use Rattle.gather.specs.declared.VecInfo.{VecInfo}
 use Rattle.quiet_changes.specs.Along.{Taken, Took}
 use Rattle.quiet_changes.specs.Along.Code.{Takes}

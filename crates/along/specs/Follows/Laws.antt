@@ -17,7 +17,7 @@ use Rattle.rules.specs.Gather.{Act, State, width, write}
 use Rattle.event_rooms.specs.Out.{Rooms, Out}
 use Rattle.vecmarks.specs.Info.{info_at, is_marked, is_quiet, with_bit}
 use Rattle.vecbuffer.specs.Stands.{flags_at}
-use Rattle.vecbuffer.specs.Stands.Laws.{asks_vector, asks_flags, asks_known}
+use Rattle.vecbuffer.proofs.Stands.Laws.{asks_vector, asks_flags, asks_known}
 use Rattle.gather.specs.declared.Gathered.{Gathered}
 use Rattle.gather.specs.declared.VecInfo.{VecInfo}
 use Rattle.gather.specs.Follows.{Done, Acts}

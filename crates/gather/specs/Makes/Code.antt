@@ -16,7 +16,7 @@ use Rattle.records.specs.Event.{record_bytes}
 use Rattle.event_rooms.specs.Out.{Rooms, Out}
 use Rattle.event_rooms.specs.Out.Laws.{room_for, counted, value_full, value_done}
 use Rattle.vecbuffer.specs.Changes.{taken}
-use Rattle.vecbuffer.specs.Stands.Laws.{values_long, stands_taken, values_taken}
+use Rattle.vecbuffer.proofs.Stands.Laws.{values_long, stands_taken, values_taken}
 use Rattle.gather.specs.Memory.{mem_of, HoldsAt}
 use Rattle.gather.specs.Memory.Laws.{clean_taken}
 use Rattle.gather.specs.Follows.{Done, Full}

@@ -17,7 +17,7 @@ use Rattle.event_rooms.specs.declared.Put.TheVariants as put
 use Rattle.records.specs.Event.{Event}
 use Rattle.event_rooms.specs.Out.{Rooms, Out, append_all}
 use Rattle.vecbuffer.specs.Stands.{storing, clearing}
-use Rattle.vecbuffer.specs.Stands.Laws.{stands_as}
+use Rattle.vecbuffer.proofs.Stands.Laws.{stands_as}
 use Rattle.gather.specs.Run.{gathers, of_vector, events_of, acted, after}
 use Rattle.gather.specs.Memory.{Mem, HoldsAt}
 use Rattle.gather.specs.Follows.{Wrote, Done, Full, Acts, Follows}

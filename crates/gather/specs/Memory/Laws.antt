@@ -20,16 +20,16 @@ use Rattle.tables.specs.Layout.{Layout, start, total_bytes}
 use Rattle.rules.specs.Gather.{State}
 use Rattle.vecmarks.specs.declared.VecBufferInfo.{VecBufferInfo}
 use Rattle.vecmarks.specs.Info.{info_at, with_value, mark_place, with_mark, is_marked, without_marks, mask_bytes_of, Inside, end_of, Apart, first, HasMark}
-use Rattle.vecmarks.specs.Info.Laws.{ask_value}
-use Rattle.vecmarks.specs.Info.Keeps.{length_cleared, inside_as, mark_value_apart, mark_mark_apart}
+use Rattle.vecmarks.proofs.Info.Laws.{ask_value}
+use Rattle.vecmarks.proofs.Info.Keeps.{length_cleared, inside_as, mark_value_apart, mark_mark_apart}
 use Rattle.vecstarts.specs.Numbers.{listing}
 use Rattle.tables.specs.Layout.Laws.{start_le}
 use Rattle.vecbuffer.specs.Changes.{Lent, mk, marked, updated, taken}
-use Rattle.vecbuffer.specs.Changes.Laws.{none_small, one_small, after_value, after_mark, has_value, has_mark}
+use Rattle.vecbuffer.proofs.Changes.Laws.{none_small, one_small, after_value, after_mark, has_value, has_mark}
 use Rattle.vecbuffer.specs.Stands.{flags_at, Stands}
-use Rattle.vecbuffer.specs.Stands.Fields.{before_flags}
-use Rattle.vecbuffer.specs.Stands.Order.{listed_room}
-use Rattle.vecbuffer.specs.Stands.Laws.{asks_flags, asks_vector, asks_known, marked_is}
+use Rattle.vecbuffer.proofs.Stands.Fields.{before_flags}
+use Rattle.vecbuffer.proofs.Stands.Order.{listed_room}
+use Rattle.vecbuffer.proofs.Stands.Laws.{asks_flags, asks_vector, asks_known, marked_is}
 use Rattle.gather.specs.Memory.{Clean}
 
 -- one of a list replaced

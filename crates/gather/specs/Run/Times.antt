@@ -9,7 +9,8 @@ use Rattle.slices.specs.Choice.{cond_ind}
 use Rattle.tables.specs.Lists.{Lists}
 use Rattle.rules.specs.Vector.{Item, began, wrote, shown, over, acts_early}
 use Rattle.rules.specs.Gather.{Tables, Act, time, write, step_end, Happening, at, single, of, ends, State, happens}
-use Rattle.rules.specs.Gather.Echo.{write_echo, echo, echoes, nothing_lost}
+use Rattle.rules.specs.Gather.Echo.{write_echo, echo, echoes}
+use Rattle.rules.proofs.Gather.Echo.{nothing_lost}
 use Rattle.records.specs.Event.{Event, event_steps}
 use Rattle.gather.specs.Run.{gathers, alone, of_vector, events_of}
 use Rattle.gather.specs.Run.Rendered.{steps_of}

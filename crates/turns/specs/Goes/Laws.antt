@@ -13,9 +13,9 @@ use Rattle.tables.specs.Lists.{Lists, nth, signals}
 use Rattle.tables.specs.Layout.{layout_of}
 use Rattle.values.specs.Value.{Suits}
 use Rattle.rules.specs.Vector.{Write, acts_early, any, all, cleared, fires, clashes, stored, ended, complete, wrote}
-use Rattle.rules.specs.Vector.Laws.{cleared_clash}
+use Rattle.rules.proofs.Vector.Laws.{cleared_clash}
 use Rattle.rules.specs.Gather.{Act, write, step_end, Happening, of, State, width, bit_write, does}
-use Rattle.rules.specs.Gather.Laws.{with_same}
+use Rattle.rules.proofs.Gather.Laws.{with_same}
 use Rattle.event_rooms.specs.declared.Counts.{Counts}
 use Rattle.event_rooms.specs.declared.Put.{Put}
 use Rattle.event_rooms.specs.declared.Put.TheVariants.{Done, Full}
@@ -28,8 +28,8 @@ use Rattle.vecstarts.specs.Numbers.{listed_in}
 use Rattle.vecbuffer.specs.Changes as change
 use Rattle.vecbuffer.specs.Changes.{updated}
 use Rattle.vecbuffer.specs.Stands.{storing, clearing}
-use Rattle.vecbuffer.specs.Stands.Order.{none_listed}
-use Rattle.vecbuffer.specs.Stands.Laws.{asks_flags, asks_vector, asks_known, asks_update, second_is, full_is, has_is, stands_update, listed_at, stands_unlisted, stands_over}
+use Rattle.vecbuffer.proofs.Stands.Order.{none_listed}
+use Rattle.vecbuffer.proofs.Stands.Laws.{asks_flags, asks_vector, asks_known, asks_update, second_is, full_is, has_is, stands_update, listed_at, stands_unlisted, stands_over}
 use Rattle.gather.specs.declared.VecInfo.{VecInfo}
 use Rattle.rules.specs.Scan.{Scan, say}
 use Rattle.gather.specs.Run.{gathers, alone, of_vector, events_of, out, fitted, acted, after, run}

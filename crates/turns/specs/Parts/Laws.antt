@@ -4,9 +4,9 @@ use Rattle.std.specs.Prelude.{ℕ, suc, ◌≡◌, refl, Bool, true, false, cond
 use Rattle.std.proofs.Common.{sym, ap, ◌∙◌, append_assoc, eqb-true}
 use Rattle.std.proofs.Math.Path.{fun_ext}
 use Rattle.rules.specs.Vector.{Write, put, Cause, rewritten, complete, ended, wrote, shown, Vec, all, any, cleared, fires, clashes, stored, act}
-use Rattle.rules.specs.Vector.Laws.{cleared_clash}
+use Rattle.rules.proofs.Vector.Laws.{cleared_clash}
 use Rattle.rules.specs.Gather.{Tables, width, write, step_end, single, of, ends, State, with, list, end_all, bit_write, to_vector, toward, does}
-use Rattle.rules.specs.Gather.Laws.{with_same}
+use Rattle.rules.proofs.Gather.Laws.{with_same}
 use Rattle.vecbuffer.specs.Stands.{storing, clearing}
 use Rattle.turns.specs.Parts.{Leaves, Closes, firing, without}
 

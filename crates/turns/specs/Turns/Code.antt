@@ -13,7 +13,7 @@ use Rattle.vecmarks.specs.Info.{Inside, is_second, has_marks, with_mark, marks_o
 use Rattle.vecmarks.specs.Full.{full_in}
 use Rattle.vecbuffer.specs.Changes as change
 use Rattle.vecbuffer.specs.Changes.{updated, Updates, taken, Takes}
-use Rattle.vecbuffer.specs.Changes.Laws.{after_mark}
+use Rattle.vecbuffer.proofs.Changes.Laws.{after_mark}
 use Rattle.gather.specs.declared.VecInfo.{VecInfo}
 use Rattle.gather.specs.declared.Gathered.{Gathered}
 use Rattle.turns.specs.Turns.{Writing, stored_turn, turn_write, turn_end, Unlists, show_vector, Showing}

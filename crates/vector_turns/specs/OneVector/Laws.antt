@@ -20,7 +20,7 @@ use Rattle.vecmarks.specs.Info.{is_second}
 use Rattle.vecstarts.specs.Numbers.{listed_in}
 use Rattle.vecbuffer.specs.Changes as change
 use Rattle.vecbuffer.specs.Changes.{updated}
-use Rattle.vecbuffer.specs.Stands.Laws.{asks_listed, listed_known}
+use Rattle.vecbuffer.proofs.Stands.Laws.{asks_listed, listed_known}
 use Rattle.gather.specs.declared.VecInfo.{VecInfo}
 use Rattle.gather.specs.Memory.{Holds, mem_of, Tabled}
 use Rattle.gather.specs.Makes.{Seen, vec_info}
