@@ -1,4 +1,6 @@
 // The answer of a call, and what every call ends with.
+#![tactic(auto)]
+
 pub mod kept;
 
 ghost use Rattle.std.specs.Prelude.{◌≡◌, ◌≤◌, length, take};
@@ -10,7 +12,7 @@ use slices::{clear_bytes, u64_of_usize};
 
 // Document 01's six numbers.
 #[repr(C)]
-#[derive(Drop)]
+#[derive(Clone, Copy)]
 pub struct Answer {
     pub number: u64,
     pub place: u64,

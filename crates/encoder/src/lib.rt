@@ -1,4 +1,6 @@
 // The time rule: `Encoder::time_change` and what it lets through, over an event stream.
+#![tactic(auto)]
+
 ghost use Rattle.std.specs.Prelude.{◌≡◌, ◌≤◌, length, cond};
 ghost use Rattle.encoder.specs.Rule.{keeps, ticks, times};
 ghost use Rattle.encoder.specs.Rule.Promise.{Applies};
@@ -10,7 +12,7 @@ use records::Record;
 use slices::copy_part;
 
 // The last kept time, once there is one, and whether events are skipped.
-#[derive(Drop)]
+#[derive(Clone, Copy)]
 pub struct Clock {
     pub begun: bool,
     pub last: u64,
@@ -18,7 +20,7 @@ pub struct Clock {
 }
 
 // How far the stream has been read, and what has been kept of it.
-#[derive(Drop)]
+#[derive(Clone, Copy)]
 struct Progress {
     clock: Clock,
     read: usize,
@@ -26,7 +28,7 @@ struct Progress {
     steps: u64,
 }
 
-#[derive(Drop)]
+#[derive(Clone, Copy)]
 enum Turn {
     More(Progress),
     Over(Written),

@@ -1,1 +1,2 @@
 // How far a call has come that fills one output is definitions and laws: see specs/.
+#![tactic(auto)]

@@ -1,4 +1,6 @@
 // The runs of numbers that vector records are made flat into: least ids, greatest ids, references, and states behind them.
+#![tactic(auto)]
+
 ghost use Rattle.std.specs.Prelude.{◌≡◌, ◌+◌, ◌*◌, ◌≤◌, length, replicate};
 ghost use Rattle.slices.specs.Splice.{part};
 

@@ -1,4 +1,6 @@
 // Fragments counted over an event stream, step by step, and what is held at its end.
+#![tactic(auto)]
+
 ghost use Rattle.std.specs.Prelude.{◌<◌, ◌≤◌, length};
 ghost use Rattle.number_writer.specs.Ended.{Fills};
 ghost use Rattle.number_writer.specs.Put.{Puts};

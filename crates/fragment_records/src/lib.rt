@@ -1,4 +1,6 @@
 // The records that the bench writes.
+#![tactic(auto)]
+
 ghost use Rattle.std.specs.Prelude.{◌≡◌};
 ghost use Rattle.fragment_records.specs.Output.{fragment, closed, held, out_bytes};
 

@@ -1,4 +1,6 @@
 // A step's end: its fragment counted, then its session dropped, each with its record.
+#![tactic(auto)]
+
 ghost use Rattle.std.specs.Prelude.{true, ◌≤◌, length};
 ghost use Rattle.step_ends.specs.Steps.{rose};
 ghost use Rattle.sessions.specs.Places.Code.{Few};

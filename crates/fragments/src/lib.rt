@@ -1,4 +1,6 @@
 // Fragments counted to sessions at step ends, over an event stream.
+#![tactic(auto)]
+
 ghost use Rattle.std.specs.Prelude.{◌≡◌};
 ghost use Rattle.step_ends.specs.Steps.{rose};
 ghost use Rattle.sessions.specs.Places.Code.{Few};
@@ -10,21 +12,21 @@ use sessions::{Bench, counted, place_for};
 use step_ends::Watch;
 
 // How many bytes have been written, or a refusal's number and place.
-#[derive(Drop)]
+#[derive(Clone, Copy)]
 pub enum Put {
     Next(usize),
     Refused(u64, usize),
 }
 
 // The bench after a step's end, or after a part of it.
-#[derive(Drop)]
+#[derive(Clone, Copy)]
 pub struct Stepped {
     pub bench: Bench,
     pub put: Put,
 }
 
 // How far the stream has been read: what is shown, what was at the last step's end, the bytes read and written, and the steps ended.
-#[derive(Drop)]
+#[derive(Clone, Copy)]
 pub struct Progress {
     pub watch: Watch,
     pub before: Watch,
@@ -33,13 +35,13 @@ pub struct Progress {
     pub steps: u64,
 }
 
-#[derive(Drop)]
+#[derive(Clone, Copy)]
 pub enum Going {
     More(Progress),
     Over(Written),
 }
 
-#[derive(Drop)]
+#[derive(Clone, Copy)]
 pub struct Turn {
     pub bench: Bench,
     pub going: Going,

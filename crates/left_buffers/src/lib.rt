@@ -1,4 +1,6 @@
 // What a reading leaves in the buffers that it was lent: zeros, and the six numbers.
+#![tactic(auto)]
+
 ghost use Rattle.std.specs.Prelude.{◌≡◌, length, take, replicate};
 ghost use Rattle.answers.specs.Outcome.{accepted, refused, leaves};
 ghost use Rattle.left_buffers.specs.Left.{left_of, lent_of, Used, Ready};

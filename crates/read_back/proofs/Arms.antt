@@ -1,6 +1,7 @@
 -- The last arms of matches on what is said, which name no variant: what they leave.
 -- Assumes nothing.
 use mathlib.Core.Path.{◌≡◌, refl}
+use mathlib.Core.Bool.{false}
 use Prim.Native.Nat.{ℕ}
 use mathlib.Core.List.{List, [], ◌∷◌}
 use types.Run.{OneOf, miss}
@@ -8,8 +9,7 @@ use denote.Enum.Declared.{tag_of}
 use Rattle.section_heads.specs.contracts.Said.{the_type}
 use Rattle.section_heads.specs.declared.Said.{Said}
 use Rattle.section_heads.specs.declared.Said.TheVariants.{Nothing, Time, Write, StepEnd, Over, Bad}
-use Rattle.sections.specs.Item.Scans.{said_times}
-use Rattle.sections.proofs.Arms.{other_ends}
+use Rattle.sections.specs.Item.Scans.{said_times, ends}
 use Rattle.read_back.specs.ReadBack.Turn.{said_bytes, said_laws, times_laws}
 use Rattle.read_back.specs.ReadBack.Loop.{ready_stands, ready_sounds, ready_counts, says_goes, says_over, says_bad}
 
@@ -30,6 +30,14 @@ other_times (Write v id) h = refl
 other_times StepEnd h = refl
 other_times Over h = refl
 other_times (Bad n) h = refl
+
+pub other_ends : (a : Said) → (a ≡ Over → ⊥) → ((n : ℕ) → a ≡ Bad n → ⊥) → ends a ≡ false
+other_ends Nothing o b = refl
+other_ends (Time u) o b = refl
+other_ends (Write v id) o b = refl
+other_ends StepEnd o b = refl
+other_ends Over o b = absurd (o refl)
+other_ends (Bad n) o b = absurd (b n refl)
 
 pub ruleset put_laws = (said_laws, other_bytes)
 

@@ -1,3 +1,3 @@
--- The definitions that the promises of `read_back_lem` cite.
+-- The definitions that the promises of `read_back` cite.
 -- Assumes nothing.
 pub mod ReadBack

@@ -1,4 +1,6 @@
 // Section bytes back to change records.
+#![tactic(auto)]
+
 ghost use Rattle.std.specs.Prelude.{◌≡◌, ◌≤◌, ◌<◌, length, ◌∷◌};
 ghost use Rattle.slices.specs.Field.{field_of};
 ghost use Rattle.numbers.specs.Fixed.{big_bytes};
@@ -20,7 +22,7 @@ use states::to_ieee1164;
 use values::How;
 
 // How far the bytes have been read, and how many bytes of records have been written.
-#[derive(Drop)]
+#[derive(Clone, Copy)]
 struct Progress {
     mode: Stand,
     read: usize,
@@ -28,7 +30,7 @@ struct Progress {
     steps: u64,
 }
 
-#[derive(Drop)]
+#[derive(Clone, Copy)]
 enum Turn {
     More(Progress),
     Stops(Written),

@@ -1,4 +1,6 @@
 // How a reading begins and ends.
+#![tactic(auto)]
+
 ghost use Rattle.std.specs.Prelude.{◌≡◌, ◌≤◌, length, replicate};
 ghost use Rattle.vecstarts.specs.Numbers.{Shapes, layout_from, filled};
 ghost use Rattle.answers.specs.Outcome.{refused, leaves};

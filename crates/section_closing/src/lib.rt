@@ -1,4 +1,6 @@
 // How written sections are closed: the last delta, the end mark, the tailer.
+#![tactic(auto)]
+
 ghost use Rattle.std.specs.Prelude.{◌++◌, ◌≤◌, length, replicate};
 ghost use Rattle.numbers.specs.Marks.{tai};
 ghost use Rattle.number_writer.specs.Put.{Puts};

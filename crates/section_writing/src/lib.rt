@@ -1,4 +1,6 @@
 // Sections written from change records, one record after the other.
+#![tactic(auto)]
+
 ghost use Rattle.std.specs.Prelude.{◌≡◌, [], ◌∷◌, ◌<◌, ◌≤◌, length};
 ghost use Rattle.number_writer.specs.Ended.{Fills};
 ghost use Rattle.tables.specs.Lists.{nth};

@@ -1,4 +1,6 @@
 // Sections written from change records.
+#![tactic(auto)]
+
 ghost use Rattle.std.specs.Prelude.{◌≡◌, true, ◌++◌, ◌<◌};
 ghost use Rattle.numbers.specs.Marks.{cyc};
 ghost use Rattle.number_writer.specs.Put.{Puts};
@@ -11,7 +13,7 @@ use numbers::marks::CYC;
 use slices::Field;
 
 // Where the writing stands: inside a step or not, the steps opened so far, the last one's time, and its last id.
-#[derive(Drop)]
+#[derive(Clone, Copy)]
 pub struct Pen {
     pub inside: bool,
     pub steps: u64,
@@ -20,14 +22,14 @@ pub struct Pen {
 }
 
 // How far the records have been read, and how many bytes have been written.
-#[derive(Drop)]
+#[derive(Clone, Copy)]
 pub struct Progress {
     pub pen: Pen,
     pub read: usize,
     pub count: usize,
 }
 
-#[derive(Drop)]
+#[derive(Clone, Copy)]
 pub enum Turn {
     More(Progress),
     Over(Written),

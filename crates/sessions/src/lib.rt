@@ -1,10 +1,12 @@
 // The sessions that are live, each at a place with its count.
+#![tactic(auto)]
+
 ghost use Rattle.std.specs.Prelude.{◌≡◌, ◌<◌, ◌≤◌};
 ghost use Rattle.sessions.specs.Places.{is_at, place_of, free_place, place_for, counted, dropped};
 ghost use Rattle.sessions.specs.Places.Code.{Countable};
 
 // "The bench state holds at most 32 live sessions and their counts": the session of each place, and how many fragments it has; 0 for a free place.
-#[derive(Drop)]
+#[derive(Clone, Copy)]
 pub struct Bench {
     pub sessions: [u32; 32],
     pub counts: [u64; 32],

@@ -1,4 +1,6 @@
 // What a session vector, a strobe and a close line show at each step's end of an event stream.
+#![tactic(auto)]
+
 ghost use Rattle.std.specs.Prelude.{◌≡◌, true, ◌+◌, ◌≤◌, length};
 ghost use Rattle.slices.specs.Splice.{part};
 ghost use Rattle.numbers.specs.Fixed.{big};
@@ -12,7 +14,7 @@ use slices::{u32_of_byte, usize_of_u32};
 use states::States;
 
 // The references of the session vector, the strobe and the close line.
-#[derive(Drop)]
+#[derive(Clone, Copy)]
 pub struct Names {
     pub session: u32,
     pub strobe: u32,
@@ -20,7 +22,7 @@ pub struct Names {
 }
 
 // Which of the three a reference is.
-#[derive(Drop)]
+#[derive(Clone, Copy)]
 pub enum Line {
     Session,
     Strobe,
@@ -29,7 +31,7 @@ pub enum Line {
 }
 
 // Whether a step is open, its time, and what each of the three shows.
-#[derive(Drop)]
+#[derive(Clone, Copy)]
 pub struct Watch {
     pub begun: bool,
     pub time: u64,
@@ -39,7 +41,7 @@ pub struct Watch {
 }
 
 // What a record of the stream brings.
-#[derive(Drop)]
+#[derive(Clone, Copy)]
 pub enum Seen {
     // No step ends: what is shown then, and the place after the record.
     More(Watch, usize),

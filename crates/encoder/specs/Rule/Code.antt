@@ -13,7 +13,7 @@ use Rattle.records.specs.declared.Record.TheVariants.{Time, Value, Real}
 use Rattle.event_streams.specs.declared.Next as records
 use Rattle.event_streams.specs.declared.Next.TheVariants.{Event, End, Bad}
 use Rattle.event_streams.specs.Stream.{next_event}
-use Rattle.event_streams.specs.Stream.Laws.{past_end, found_event}
+use Rattle.event_streams.proofs.Stream.Laws.{past_end, found_event}
 use Rattle.encoder.specs.declared.Clock.{Clock}
 use Rattle.encoder.specs.declared.Progress.{Progress}
 use Rattle.encoder.specs.declared.Turn.{Turn}

@@ -15,7 +15,7 @@ use Rattle.records.specs.declared.Record.TheVariants.{Time, Value, Real}
 use Rattle.event_streams.specs.declared.Next.{Next}
 use Rattle.event_streams.specs.declared.Next.TheVariants as next
 use Rattle.event_streams.specs.Stream.{in_values, next_event}
-use Rattle.event_streams.specs.Stream.Laws.{found_event}
+use Rattle.event_streams.proofs.Stream.Laws.{found_event}
 use Rattle.step_ends.specs.declared.Names.{Names}
 use Rattle.step_ends.specs.declared.Line.{Line}
 use Rattle.step_ends.specs.declared.Line.TheVariants.{Session, Strobe, Close, Other}

@@ -13,7 +13,7 @@ use Rattle.records.specs.declared.Record.{Record}
 use Rattle.records.specs.declared.Record.TheVariants.{Time, Value, Real}
 use Rattle.event_streams.specs.declared.Next.{Next}
 use Rattle.event_streams.specs.Stream.{event_length, record_at, is_time, in_values, judged, next_event}
-use Rattle.event_streams.specs.Stream.Laws.{past_end}
+use Rattle.event_streams.proofs.Stream.Laws.{past_end}
 use Rattle.step_ends.specs.declared.Names.{Names}
 use Rattle.step_ends.specs.declared.Line.{Line}
 use Rattle.step_ends.specs.declared.Line.TheVariants.{Session, Strobe, Close, Other}

@@ -118,9 +118,9 @@ module _ (s : List ℕ) (values room : ℕ) where
       (λ a e. keeps_end (suc fuel) c k i i' k' (rw (le-leb (length s) i a)) a l e)
       (λ a b d. cond_ind (keeps c (record_at s i)) _ _ (λ y. y ≡ ruled i' k' → KeepsFrom (suc fuel) c k i i' k')
       (λ q. cond_ind (leb (length k.events + (i + event_length (get_or s i 0) - i)) room) _ _ (λ y. y ≡ ruled i' k' → KeepsFrom (suc fuel) c k i i' k')
-      (λ f e. keeps_kept fuel c k i i' k' a d q (leb-true _ _ f) (keeping fuel _ _ _ i' k' (omega (arith, b)) d e))
+      (λ f e. keeps_kept fuel c k i i' k' a d q (leb-true _ _ f) (keeping fuel (ticks c (record_at s i)) (record { events = k.events ++ part s i (i + event_length (get_or s i 0) - i); steps = k.steps + times (record_at s i) }) (i + event_length (get_or s i 0)) i' k' (omega (arith, b)) d e))
       (λ f e. let z : ◌≡◌ {A = ℕ} 0 1 = cc in absurd (omega arith)))
-      (λ q e. keeps_dropped fuel c k i i' k' a d q (keeping fuel _ k _ i' k' (omega (arith, b)) d e)))
+      (λ q e. keeps_dropped fuel c k i i' k' a d q (keeping fuel (ticks c (record_at s i)) k (i + event_length (get_or s i 0)) i' k' (omega (arith, b)) d e)))
       (λ m o e. let z : ◌≡◌ {A = ℕ} 0 1 = cc in absurd (omega arith))
 
   pub rule_keeps : (i : ℕ) (k : Kept) → time_rule s values room ≡ ruled i k → Keeps s values room i k

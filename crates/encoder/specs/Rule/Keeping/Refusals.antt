@@ -91,7 +91,7 @@ module _ (s : List ℕ) (values room : ℕ) where
       next_is s values
       (λ x. next_event s values c.begun i ≡ x → one s values room c k i x (λ c₁ k₁ j. rule s values room fuel c₁ k₁ j) ≡ refused m p → From (records_from s (suc fuel) i) c k i m p) c.begun i
       (λ a q e. let z : ◌≡◌ {A = ℕ} 0 1 = cc in absurd (omega arith))
-      (λ a b d q. rw (first_record s fuel i a) (over_at fuel c k i m p d (λ c₁ k₁. refusing fuel c₁ k₁ _ m p (omega (arith, b)))))
+      (λ a b d q. rw (first_record s fuel i a) (over_at fuel c k i m p d (λ c₁ k₁. refusing fuel c₁ k₁ (i + event_length (get_or s i 0)) m p (omega (arith, b)))))
       (λ n o q e. inl (bad_here fuel c k i m p n i (record { number = o; begun = c.begun; bad = q }) e)) refl
 
   pub rule_refuses : (n p : ℕ) → time_rule s values room ≡ refused n p → Refusal s values room n p

@@ -1,0 +1,16 @@
+-- Written by tools/proof-answers from proofs.map.
+use Rattle.std.proofs.Common.{rules}
+use Rattle.sections_writer.specs.Writer.Loop.{loop_laws}
+use Rattle.section_writing.proofs.write_sections.Goals as goal
+
+pub loop-q-init : goal.loop-q-init
+loop-q-init c = search (loop_laws, rules)
+
+pub loop-q-smaller : goal.loop-q-smaller
+loop-q-smaller c = search (loop_laws, rules)
+
+pub loop-q-preserved : goal.loop-q-preserved
+loop-q-preserved c = search (loop_laws, rules)
+
+pub returns-in-Over : goal.returns-in-Over
+returns-in-Over c = search (loop_laws, rules)
