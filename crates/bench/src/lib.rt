@@ -1,4 +1,6 @@
 // The bench for fragments: its public entry.
+#![tactic(auto)]
+
 ghost use Rattle.std.specs.Prelude.{◌≡◌, length};
 ghost use Rattle.answers.specs.Outcome.{LeftKept};
 ghost use Rattle.bench.specs.Bench.{apart, bench};
@@ -22,8 +24,7 @@ fn apart(session: u32, strobe: u32, close: u32) -> bool
 }
 
 // Fragments counted to the sessions of a session vector, over an event stream and its value bytes, by the references of the vector, of the strobe and of the close line.
-#[unsafe(no_mangle)]
-pub extern "C" fn doorquill_bench(
+pub fn doorquill_bench(
     events: &[u8],
     values: &[u8],
     session: u32,

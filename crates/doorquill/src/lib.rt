@@ -1,4 +1,6 @@
 // Section reading, over flat lists and over vector records, the time rule, and sections written: their faces.
+#![tactic(auto)]
+
 mod lent;
 mod passed;
 
@@ -23,7 +25,7 @@ use values::How;
 
 // A vector's record, as a host lends it.
 #[repr(C)]
-#[derive(Drop)]
+#[derive(Clone, Copy)]
 pub struct Vector {
     pub min: u32,
     pub max: u32,
@@ -32,8 +34,7 @@ pub struct Vector {
 }
 
 // Section reading; reals are little-endian, or follow the flag.
-#[unsafe(no_mangle)]
-pub extern "C" fn doorquill_read_sections<'a>(
+pub fn doorquill_read_sections<'a>(
     kinds: &'a [u8],
     refs: &'a [u32],
     vecs: &'a [u32],
@@ -85,8 +86,7 @@ pub extern "C" fn doorquill_read_sections<'a>(
 }
 
 // Section reading over vector records: a thin entry over the same core. `flat` lends 4 numbers for each record; it is a working buffer.
-#[unsafe(no_mangle)]
-pub extern "C" fn doorquill_read_sections_lent<'a>(
+pub fn doorquill_read_sections_lent<'a>(
     kinds: &'a [u8],
     refs: &'a [u32],
     vecs: &'a [u32],
@@ -121,8 +121,7 @@ pub extern "C" fn doorquill_read_sections_lent<'a>(
 }
 
 // The time rule over an event stream and its value bytes: what is kept of it.
-#[unsafe(no_mangle)]
-pub extern "C" fn doorquill_time_rule(events: &[u8], values: &[u8], kept: &mut [u8]) -> Answer
+pub fn doorquill_time_rule(events: &[u8], values: &[u8], kept: &mut [u8]) -> Answer
     ensures { left_in result kept
         ≡ apply_time_rule events.now (length values.now) (length kept.old) }
 {
@@ -134,8 +133,7 @@ pub extern "C" fn doorquill_time_rule(events: &[u8], values: &[u8], kept: &mut [
 }
 
 // Sections written from change records.
-#[unsafe(no_mangle)]
-pub extern "C" fn doorquill_write_sections(
+pub fn doorquill_write_sections(
     kinds: &[u8],
     refs: &[u32],
     vecs: &[u32],

@@ -1,4 +1,6 @@
 // Section bytes read back into change records: the face.
+#![tactic(auto)]
+
 ghost use Rattle.std.specs.Prelude.{◌≡◌, length};
 ghost use Rattle.entries.specs.Written.{read_back};
 ghost use Rattle.entries.specs.Faces.{tables, left_in};
@@ -9,8 +11,7 @@ use checks::checks_without_room;
 use read_back::read_back;
 use tables::Check;
 
-#[unsafe(no_mangle)]
-pub extern "C" fn doorquill_read_back(
+pub fn doorquill_read_back(
     kinds: &[u8],
     refs: &[u32],
     vecs: &[u32],

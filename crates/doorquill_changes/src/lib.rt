@@ -1,4 +1,6 @@
 // Change reading: its face.
+#![tactic(auto)]
+
 mod passed;
 
 ghost use Rattle.std.specs.Prelude.{◌≡◌};
@@ -11,8 +13,7 @@ use passed::changes_passed;
 use reading_ends::refuse;
 use tables::Check;
 
-#[unsafe(no_mangle)]
-pub extern "C" fn doorquill_read_changes<'a>(
+pub fn doorquill_read_changes<'a>(
     kinds: &'a [u8],
     refs: &'a [u32],
     vecs: &'a [u32],

@@ -14,8 +14,10 @@ use Rattle.values.specs.declared.How.{How}
 use Rattle.rules.specs.Vector.{acts_early}
 use Rattle.rules.specs.Gather.{Good, begin}
 use Rattle.rules.specs.Steps.Owned.{history_of}
-use Rattle.rules.specs.Once.{Single, rising_single}
-use Rattle.rules.specs.Demand3.{Demand3, demand3}
+use Rattle.rules.specs.Once.{Single}
+use Rattle.rules.proofs.Once.{rising_single}
+use Rattle.rules.specs.Demand3.{Demand3}
+use Rattle.rules.proofs.Demand3.{demand3}
 use Rattle.event_rooms.specs.Out.{Out, empty, append_all}
 use Rattle.rules.specs.Scan.{Scan, acts, Ends}
 use Rattle.gather.specs.Run.{gathers}

@@ -1,7 +1,7 @@
 -- What the contracts of the faces say, by the names of their slices: the tables, and the lent buffers before and after.
 -- Assumes nothing.
 use Rattle.std.specs.Prelude.{ℕ, ◌≡◌, List, length}
-use Rattle.std.specs.Borrow.{Bor}
+use Rattle.std.specs.Borrow.{Bor, MutBor}
 use denote.Triple.Both.{Both}
 use Rattle.tables.specs.Lists.{Lists, lists}
 use Rattle.tables.specs.Checks.{checks}
@@ -22,6 +22,12 @@ Slice = Bor (List ℕ)
 abbrev pub Slices : Type 0
 Slices = Both Slice Slice
 
+abbrev pub Buffer : Type 0
+Buffer = MutBor (List ℕ)
+
+abbrev pub Buffers : Type 0
+Buffers = Both Buffer Buffer
+
 -- the tables, as they are passed and at a call's end
 abbrev pub given : (kinds refs vecs mins maxs states vec_refs : Slice) → Lists
 given k r v i a s e = lists k.now r.now v.now i.now a.now s.now e.now
@@ -31,26 +37,26 @@ tables k r v i a s e =
     lists k.entry.now r.entry.now v.entry.now i.entry.now a.entry.now s.entry.now e.entry.now
 
 -- how much is lent, and what is left there
-abbrev pub lent : (events values room list : Slices) → Lent
+abbrev pub lent : (events values room list : Buffers) → Lent
 lent e v r l = lent_of e.entry.now v.entry.now r.entry.now l.entry.now
 
-abbrev pub left : Answer → (events values room list : Slices) → Left
+abbrev pub left : Answer → (events values room list : Buffers) → Left
 left a e v r l = left_of a e.exit.now v.exit.now r.exit.now l.exit.now
 
 -- where one output is lent
-abbrev pub left_in : Answer → (out : Slices) → LeftKept
+abbrev pub left_in : Answer → (out : Buffers) → LeftKept
 left_in a o = record { answer = a; kept = o.exit.now }
 
 -- ---- within a reading
 
 -- its checks passed
-abbrev pub Checked : Lists → (input events values room list : Slice) → Type 0
+abbrev pub Checked : Lists → (input : Slice) → (events values room list : Buffer) → Type 0
 Checked t s e v r l = checks t (length s.now) (length e.now) (length v.now) (length r.now) (length l.now) ≡ Passed
 
 -- what comes of its scan's acts
-abbrev pub ran : Lists → (events values : Slices) → Scan → Outcome
+abbrev pub ran : Lists → (events values : Buffers) → Scan → Outcome
 ran t e v sc = outcome (run_all t (rooms_of e.entry.now v.entry.now) sc)
 
 -- its acts are over, and its end may come
-abbrev pub Over : (bytes numbers : ℕ) → Part → (events values room list : Slices) → Outcome → Type 0
+abbrev pub Over : (bytes numbers : ℕ) → Part → (events values room list : Buffers) → Outcome → Type 0
 Over n k p e v r l o = Ended n k r.exit.now l.exit.now e.exit.now v.exit.now p o

@@ -11,7 +11,7 @@ use Rattle.doorquill.specs.declared.Vector.{Vector}
 use Rattle.answers.specs.declared.Answer.{Answer}
 use Rattle.answers.specs.Outcome.{refused, Lent, leaves}
 use Rattle.entries.specs.Entries.{read_sections}
-use Rattle.entries.specs.Faces.{Slices}
+use Rattle.entries.specs.Faces.{Buffers}
 use Rattle.doorquill.specs.Lent.{LeftLent}
 
 -- what stands past the last record
@@ -73,5 +73,5 @@ read_flat kinds refs vecs v flat flag s l =
 abbrev pub left_lent : Answer → (flat events values room list : List ℕ) → LeftLent
 left_lent a f e v r l = record { left = record { answer = a; events = e; values = v; room = r; list = l }; flat = f }
 
-abbrev pub left_with : Answer → (flat events values room list : Slices) → LeftLent
+abbrev pub left_with : Answer → (flat events values room list : Buffers) → LeftLent
 left_with a f e v r l = left_lent a f.exit.now e.exit.now v.exit.now r.exit.now l.exit.now

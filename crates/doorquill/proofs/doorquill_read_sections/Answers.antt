@@ -1,0 +1,19 @@
+-- `doorquill::doorquill_read_sections` meets its contract: each need follows from `entry_laws`. Assumes nothing.
+use Rattle.entries.specs.Begin.{entry_laws, ask_passed}
+use Rattle.std.proofs.Common.{rules}
+use Rattle.doorquill.proofs.doorquill_read_sections.Goals as goal
+
+pub checks-requires : goal.checks-requires
+checks-requires c = search (entry_laws, rules)
+
+pub refuse-requires : goal.refuse-requires
+refuse-requires c = search (entry_laws, rules)
+
+pub returns-in-Passed : goal.returns-in-Passed
+returns-in-Passed c = search (entry_laws, rules)
+
+pub returns-in-Refused : goal.returns-in-Refused
+returns-in-Refused c = search (entry_laws, rules)
+
+pub sections_passed-requires : goal.sections_passed-requires
+sections_passed-requires c = ask_passed _ _ _ _ _ _ c.checks.ensures c.in-Passed.is

@@ -1,0 +1,23 @@
+-- `doorquill::doorquill_write_sections` meets its contract: each need follows from `entry_laws`, `filled_laws`. Assumes nothing.
+use Rattle.answers.specs.Filled.{filled_laws}
+use Rattle.entries.specs.Written.Laws.{entry_laws}
+use Rattle.std.proofs.Common.{rules}
+use Rattle.doorquill.proofs.doorquill_write_sections.Goals as goal
+
+pub checks_without_room-requires : goal.checks_without_room-requires
+checks_without_room-requires c = search (entry_laws, filled_laws, rules)
+
+pub write_sections-w-requires : goal.write_sections-w-requires
+write_sections-w-requires c = search (entry_laws, filled_laws, rules)
+
+pub end_filled-requires : goal.end_filled-requires
+end_filled-requires c = search (entry_laws, filled_laws, rules)
+
+pub refuse_kept-requires : goal.refuse_kept-requires
+refuse_kept-requires c = search (entry_laws, filled_laws, rules)
+
+pub returns-in-Passed : goal.returns-in-Passed
+returns-in-Passed c = search (entry_laws, filled_laws, rules)
+
+pub returns-in-Refused : goal.returns-in-Refused
+returns-in-Refused c = search (entry_laws, filled_laws, rules)

@@ -1,0 +1,13 @@
+-- Written by tools/proof-answers from proofs.map.
+use Rattle.std.proofs.Common.{rules}
+use Rattle.doorquill.specs.Lent.Laws.{read_laws}
+use Rattle.doorquill.proofs.lent.read_flat.Goals as goal
+
+pub read_passed-requires : goal.read_passed-requires
+read_passed-requires c = search (read_laws, rules)
+
+pub returns-in-Passed : goal.returns-in-Passed
+returns-in-Passed c = search (read_laws, rules)
+
+pub returns-in-Refused : goal.returns-in-Refused
+returns-in-Refused c = search (read_laws, rules)

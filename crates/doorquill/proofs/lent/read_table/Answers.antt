@@ -1,0 +1,7 @@
+-- Written by tools/proof-answers from proofs.map.
+use Rattle.std.proofs.Common.{rules}
+use Rattle.doorquill.specs.Lent.Laws.{runs_laws}
+use Rattle.doorquill.proofs.lent.read_table.Goals as goal
+
+pub returns : goal.returns
+returns c = search (runs_laws, rules)

@@ -1,0 +1,32 @@
+// Change reading, as C calls it.
+// Each export is the library's function of that name, with its clauses.
+#![tactic(auto)]
+
+ghost use Rattle.std.specs.Prelude.{◌≡◌};
+ghost use Rattle.entries.specs.Entries.{read_changes};
+ghost use Rattle.entries.specs.Faces.{tables, lent, left};
+
+use answers::Answer;
+
+#[unsafe(no_mangle)]
+pub extern "C" fn doorquill_read_changes<'a>(
+    kinds: &'a [u8],
+    refs: &'a [u32],
+    vecs: &'a [u32],
+    mins: &'a [u32],
+    maxs: &'a [u32],
+    states: &'a [u8],
+    vec_refs: &'a [u32],
+    input: &[u8],
+    events: &mut [u8],
+    values: &mut [u8],
+    room: &mut [u8],
+    list: &mut [u32],
+) -> Answer
+    ensures { let t = tables kinds refs vecs mins maxs states vec_refs in
+        left result events values room list ≡ read_changes t input.now (lent events values room list) }
+{
+    doorquill_changes::doorquill_read_changes(
+        kinds, refs, vecs, mins, maxs, states, vec_refs, input, events, values, room, list,
+    )
+}
