@@ -9,7 +9,6 @@ use Rattle.step_ends.specs.Steps.{Steps, unseen, step_ends, rose}
 use Rattle.step_ends.specs.Steps as steps
 use Rattle.courses.specs.Course.{Course, done, fault}
 pub mod Places
-pub mod Proofs
 
 unfoldable pub without : ℕ → List ℕ → List ℕ
 without x [] = []

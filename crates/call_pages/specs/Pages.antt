@@ -19,7 +19,6 @@ use Rattle.courses.specs.GivenBack.{given_back}
 use Rattle.courses.specs.Benched.{benched}
 use Rattle.call_pages.specs.Exact.{Exact}
 use Rattle.call_pages.specs.Crowded.{crowded}
-pub mod Proofs
 
 -- demand 1 of document 01, as far as a call with one output needs it: the answer's fields, and the whole of its buffer
 pub record Shaped (most input room : ℕ) (x : LeftKept) : Type 0 where

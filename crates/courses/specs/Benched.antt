@@ -13,7 +13,6 @@ use Rattle.fragment_records.specs.Output.{fragment, out_bytes, held_of}
 use Rattle.fragment_records.specs.Output as output
 use Rattle.fragments.specs.Counting.{closes, closed_of}
 use Rattle.courses.specs.Course.{Course, adds, done, fault}
-pub mod Laws
 
 -- "21 when a new session meets 32 live ones, after all of 01's": so behind the fragment, which has to fit; "at the
 -- record ending the step"

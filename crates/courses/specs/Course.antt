@@ -2,7 +2,6 @@
 -- Assumes nothing.
 use Rattle.std.specs.Prelude.{ℕ, ◌+◌, ◌≤◌, ◌<◌, ◌≡◌, ◌⊎◌, cond, List, [], ◌++◌, length, leb}
 use Rattle.number_writer.specs.Ended.{Ended, wrote, refused}
-pub mod Laws
 
 -- bytes, with the next unread byte behind what they are written for, and the rest;
 -- or the end: all was read, with the steps; or a refusal

@@ -8,7 +8,6 @@ use Rattle.rules.specs.Scan as scan
 use Rattle.section_scan.specs.Sections.{scan_sections}
 use Rattle.read_back.specs.ReadBack.{record_of, times}
 use Rattle.courses.specs.Course.{Course, adds, done, fault}
-pub mod Laws
 
 unfoldable pub given_from : Lists → (steps : ℕ) → Scan → Course
 given_from t n (say a p rest) = adds (record_of t a) p (given_from t (n + times a) rest)

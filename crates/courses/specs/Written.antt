@@ -10,7 +10,6 @@ use Rattle.changes.specs.Changes.{next_change, scan_changes}
 use Rattle.sections_writer.specs.declared.Pen.{Pen}
 use Rattle.sections_writer.specs.Writer.{Given, goes, ends, stops, given, begin}
 use Rattle.courses.specs.Course.{Course, adds, done, fault}
-pub mod Laws
 
 module _ (t : Lists) (flag : Bool) (s : List ℕ) where
   unfoldable pub on_given : Pen → Given → (Pen → ℕ → Course) → Course

@@ -1,1 +1,2 @@
 // What the calls with one output have to write, their room aside: see specs/.
+#![tactic(auto)]

@@ -2,13 +2,5 @@
 pub mod Statements
 pub mod Own
 pub mod Trace
-pub mod Bits
 pub mod Stored
 pub mod Causes
-pub mod Sentences
-pub mod Tells
-pub mod Whole
-pub mod Suited
-pub mod Watched
-pub mod Readings
-pub mod Mistakes

@@ -28,7 +28,7 @@ use Rattle.doorquill.specs.Lent.{table_of, checks_lent, read_sections_lent}
 use Rattle.doorquill.specs.Lent.Demands.{LentDemand1}
 use Rattle.doorquill.specs.Lent.Demands as lent
 use Rattle.demand3_bytes.specs.Statements.{OnBytes}
-use Rattle.demand3_bytes.specs.Readings as bytes
+use Rattle.demand3_bytes.proofs.Readings as bytes
 use Rattle.real_modes.specs.Modes.{TwoModes}
 use Rattle.real_modes.specs.Modes as reals
 use Rattle.written_is_read.specs.Demands.{WriteDemand, BackDemand}
@@ -38,7 +38,7 @@ use Rattle.bench.specs.Bench.Unique as benched-unique
 use Rattle.bench.specs.Demands.{BenchDemand}
 use Rattle.bench.specs.Demands as benching
 use Rattle.call_pages.specs.Pages.{RulePage, BenchPage, WritePage, BackPage}
-use Rattle.call_pages.specs.Pages.Proofs as pages
+use Rattle.call_pages.proofs.Pages.Proofs as pages
 use Rattle.room_bounds.specs.Rooms.{section_events, section_values, change_events, change_values, rule_room, bench_room, write_room, back_room}
 use Rattle.room_bounds.specs.Readings as reading-rooms
 use Rattle.room_bounds.specs.Calls.Ruled as rule-rooms

@@ -1,1 +1,2 @@
 // Small inputs through the entries' definitions, each by computation: no code.
+#![tactic(auto)]

@@ -7,7 +7,7 @@ use Rattle.tables.specs.declared.Check.{Check}
 use Rattle.tables.specs.declared.Check.TheVariants.{Passed, Refused}
 use Rattle.answers.specs.Outcome.{LeftKept}
 use Rattle.courses.specs.Course.{Course, bytes_of}
-use Rattle.courses.specs.Course.Laws.{over_more}
+use Rattle.courses.proofs.Course.Laws.{over_more}
 use Rattle.call_pages.specs.Exact.{Why, Exact}
 pub mod Ruled
 pub mod GivenBack

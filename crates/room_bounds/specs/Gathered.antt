@@ -12,9 +12,11 @@ use native.Mathlib.Omega.{arith}
 use borrow.Author.Tests.{eqb-true, eqb-false}
 use Rattle.slices.specs.Choice.{cond_ind}
 use Rattle.rules.specs.Vector.{Write, put, Cause, rewritten, complete, ended, Item, began, wrote, shown, over, Vec, all, any, fires, clashes, stored, act}
-use Rattle.rules.specs.Vector.Laws.{by_test, never_both, not_true_is_false, any_none, Wide, wide_stored, wide_fires, cleared_any, clashed, fired_any}
+use Rattle.rules.specs.Vector.Laws.{Wide}
+use Rattle.rules.proofs.Vector.Laws.{by_test, never_both, not_true_is_false, any_none, wide_stored, wide_fires, cleared_any, clashed, fired_any}
 use Rattle.rules.specs.Gather.{Tables, width, Act, time, write, step_end, Happening, at, single, of, ends, State, begin, with, elem, end_all, bit_write, to_vector, toward, does, happens}
-use Rattle.rules.specs.Gather.Laws.{with_same, with_other, list_again, list_new, Distinct, Sound, sound_begin, sound_does}
+use Rattle.rules.specs.Gather.Laws.{Distinct, Sound}
+use Rattle.rules.proofs.Gather.Laws.{with_same, with_other, list_again, list_new, sound_begin, sound_does}
 
 -- ---- counts
 

@@ -17,7 +17,7 @@ use Rattle.values.specs.declared.How.{How}
 use Rattle.values.specs.Value.Laws.{value_next}
 use Rattle.rules.specs.Vector.{acts_early}
 use Rattle.rules.specs.Gather.{Act, time, write, step_end, Happening, at, single, of, ends, State, begin, happens}
-use Rattle.rules.specs.Gather.Laws.{happens_append}
+use Rattle.rules.proofs.Gather.Laws.{happens_append}
 use Rattle.records.specs.Event.{Event, record_bytes, record_of, event_value}
 use Rattle.records.specs.Event as event
 use Rattle.event_rooms.specs.Out.{Rooms, empty, fits}

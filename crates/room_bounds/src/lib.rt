@@ -1,1 +1,2 @@
 // How much room is always enough for each call: see specs/.
+#![tactic(auto)]

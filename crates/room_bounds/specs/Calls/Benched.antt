@@ -26,10 +26,11 @@ use Rattle.fragments.specs.Counting.{closes, closed_of}
 use Rattle.bench.specs.Bench as benching
 use Rattle.courses.specs.Course.{Course, bytes_of, Faults}
 use Rattle.courses.specs.Benched.{seats, counts, drops, benched_from, benched}
-use Rattle.call_pages.specs.Crowded.Places.{taken, taken_from, live, counted_live, dropped_live, live_none}
-use Rattle.call_pages.specs.Crowded.Proofs.{benched_crowded}
+use Rattle.call_pages.specs.Crowded.Places.{taken, taken_from, live}
+use Rattle.call_pages.proofs.Crowded.Places.{counted_live, dropped_live, live_none}
+use Rattle.call_pages.proofs.Crowded.Proofs.{benched_crowded}
 use Rattle.call_pages.specs.Pages.{bench_checks}
-use Rattle.call_pages.specs.Pages.Proofs.{bench_page}
+use Rattle.call_pages.proofs.Pages.Proofs.{bench_page}
 use Rattle.room_bounds.specs.Rooms.{bench_room}
 use Rattle.room_bounds.specs.Calls.{not_full, unless_not}
 use Rattle.room_bounds.specs.Calls.Rises.{rises_paid, Never, ends_never}

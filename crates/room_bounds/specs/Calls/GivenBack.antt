@@ -17,7 +17,7 @@ use Rattle.values.specs.declared.Read.{Read}
 use Rattle.values.specs.declared.Read.TheVariants.{Value}
 use Rattle.values.specs.Value.{ordinary, value, real}
 use Rattle.values.specs.Value.Laws.{value_next, value_real}
-use Rattle.rules.specs.Vector.Laws.{by_test}
+use Rattle.rules.proofs.Vector.Laws.{by_test}
 use Rattle.rules.specs.Gather.{Act, time, write, step_end}
 use Rattle.rules.specs.Scan.{Scan, say}
 use Rattle.rules.specs.Scan as scan
@@ -27,7 +27,7 @@ use Rattle.read_back.specs.ReadBack.{write_of, record_of, times}
 use Rattle.entries.specs.Written.{read_back}
 use Rattle.courses.specs.Course.{bytes_of}
 use Rattle.courses.specs.GivenBack.{given_from, given_back}
-use Rattle.call_pages.specs.Pages.Proofs.{back_page}
+use Rattle.call_pages.proofs.Pages.Proofs.{back_page}
 use Rattle.room_bounds.specs.Rooms.{has_number, back_room}
 use Rattle.room_bounds.specs.Rooms.Laws.{has_number_lem}
 use Rattle.room_bounds.specs.Costs.{costs_of, covers_all}

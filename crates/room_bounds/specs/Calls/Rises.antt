@@ -12,13 +12,13 @@ use Rattle.std.proofs.Math.ListN.{length}
 use Rattle.slices.specs.Choice.{cond_ind}
 use Rattle.slices.specs.Splice.{part}
 use Rattle.numbers.specs.Fixed.{big}
-use Rattle.rules.specs.Vector.Laws.{by_test}
+use Rattle.rules.proofs.Vector.Laws.{by_test}
 use Rattle.records.specs.declared.Record.{Record}
 use Rattle.records.specs.declared.Record.TheVariants.{Time, Value, Real}
 use Rattle.event_streams.specs.declared.Next.{Next}
 use Rattle.event_streams.specs.declared.Next.TheVariants as next
 use Rattle.event_streams.specs.Stream.{event_length, record_at, is_time, next_event}
-use Rattle.event_streams.specs.Stream.Laws.{Stands, Found, found}
+use Rattle.event_streams.proofs.Stream.Laws.{Stands, Found, found}
 use Rattle.encoder.specs.Rule.Keeping.Laws.{next_is}
 use Rattle.step_ends.specs.declared.Names.{Names}
 use Rattle.step_ends.specs.declared.Line.{Line}

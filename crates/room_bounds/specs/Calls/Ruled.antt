@@ -1,7 +1,7 @@
 -- The time rule keeps no more than it reads.
 -- Assumes nothing.
 use Prim.Native.Nat.{ℕ, zero, suc, ◌+◌, ◌-◌, ◌≤◌}
-use Rattle.std.specs.Prelude.{◌≡◌, ◌≢◌, Bool, List}
+use Rattle.std.specs.Prelude.{◌≡◌, ◌≢◌, Bool, List, get_or}
 use Rattle.std.proofs.Math.Path.{refl}
 use Rattle.std.proofs.Common.{sym}
 use Rattle.std.proofs.Math.Bool.{true, false}
@@ -12,8 +12,8 @@ use Rattle.slices.specs.Splice.{part}
 use Rattle.slices.specs.Splice.Laws.{length_part}
 use Rattle.event_streams.specs.declared.Next.{Next}
 use Rattle.event_streams.specs.declared.Next.TheVariants.{Event, End, Bad}
-use Rattle.event_streams.specs.Stream.{next_event}
-use Rattle.event_streams.specs.Stream.Laws.{found_event}
+use Rattle.event_streams.specs.Stream.{event_length, next_event}
+use Rattle.event_streams.proofs.Stream.Laws.{found_event}
 use Rattle.encoder.specs.declared.Clock.{Clock}
 use Rattle.encoder.specs.Rule.{keeps, ticks, times}
 use Rattle.encoder.specs.Rule.Keeping.{unset}
@@ -23,7 +23,7 @@ use Rattle.entries.specs.Entries.Keeps as keeping
 use Rattle.courses.specs.Course.{bytes_of, Faults}
 use Rattle.courses.specs.Ruled.{on_record, rules_from, ruled, on_next, read_from, read}
 use Rattle.call_pages.specs.Pages.{rule_checks}
-use Rattle.call_pages.specs.Pages.Proofs.{rule_page}
+use Rattle.call_pages.proofs.Pages.Proofs.{rule_page}
 use Rattle.room_bounds.specs.Rooms.{rule_room}
 use Rattle.room_bounds.specs.Calls.{not_full, unless_not}
 
@@ -63,7 +63,7 @@ module _ (s : List ℕ) (values : ℕ) where
   never_16 zero begun i p = λ f. f
   never_16 (suc fuel) begun i p =
       next_is s values (λ x. Faults 16 p (on_next s values i x (λ j. read_from s values fuel true j)) → ⊥) begun i
-      (λ a f. f) (λ a b d f. never_16 fuel true _ p f) (λ n o f. o.2 (sym f.0))
+      (λ a f. f) (λ a b d f. never_16 fuel true (i + event_length (get_or s i 0)) p f) (λ n o f. o.2 (sym f.0))
 
   -- room as long as its input
   pub rule_room_lem : (room : ℕ) → rule_room (length s) ≤ room → (apply_time_rule s values room).answer.number ≢ 16

@@ -18,7 +18,7 @@ use Rattle.tables.specs.Checks.Laws.{then_passed}
 use Rattle.tables.specs.Good.Laws as good
 use Rattle.tables.specs.declared.Check.TheVariants.{Passed}
 use Rattle.checks.specs.Checked.{checks_without_room, without_number}
-use Rattle.rules.specs.Vector.Laws.{by_test}
+use Rattle.rules.proofs.Vector.Laws.{by_test}
 use Rattle.rules.specs.Gather.{time, write, step_end}
 use Rattle.rules.specs.Scan.{Scan, say}
 use Rattle.rules.specs.Scan as scan
@@ -30,8 +30,9 @@ use Rattle.sections_writer.specs.declared.Pen.{Pen}
 use Rattle.sections_writer.specs.Writer.{goes, ends, stops, time_bytes, time_good, timed, value_bytes, write_bytes, wrote_to, stepped, cycle_end, closing, given_time, given_write, given, begin}
 use Rattle.entries.specs.Written.{write_sections}
 use Rattle.courses.specs.Course.{Course, done, bytes_of}
-use Rattle.courses.specs.Written.{on_given, written_from, written, follows, in_order, orderly}
-use Rattle.call_pages.specs.Pages.Proofs.{write_page}
+use Rattle.courses.specs.Written.{follows, in_order, orderly}
+use Rattle.courses.specs.Written.{on_given, written_from, written}
+use Rattle.call_pages.proofs.Pages.Proofs.{write_page}
 use Rattle.room_bounds.specs.Rooms.{write_room}
 use Rattle.room_bounds.specs.Costs.Changes.{Long, next_long}
 use Rattle.room_bounds.specs.Calls.{not_full}

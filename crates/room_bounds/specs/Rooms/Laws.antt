@@ -11,7 +11,7 @@ use Rattle.states.specs.Kind.{bytes_required}
 use Rattle.states.specs.Packed.Bytes.{get_d_past}
 use Rattle.tables.specs.Lists.{Lists, nth, vectors}
 use Rattle.tables.specs.Good as tables
-use Rattle.rules.specs.Vector.Laws.{by_test}
+use Rattle.rules.proofs.Vector.Laws.{by_test}
 use Rattle.rules.specs.Gather.{width}
 use Rattle.gather.specs.Run.{gathers}
 use Rattle.room_bounds.specs.Rooms.{has_number, larger, most, vector_bytes, widest}

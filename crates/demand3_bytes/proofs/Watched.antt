@@ -26,9 +26,9 @@ use Rattle.gather.specs.Run.{gathers, alone, events_of, went, fitted, acted, aft
 use Rattle.gather.specs.Run.Rendered.{values_of}
 use Rattle.gather.specs.Run.Events.{made}
 use Rattle.gather.specs.Run.Events.Laws as running
-use Rattle.demand3_bytes.specs.Trace.{events_append, values_append}
+use Rattle.demand3_bytes.proofs.Trace.{events_append, values_append}
 use Rattle.demand3_bytes.specs.Stored.{Fitting}
-use Rattle.demand3_bytes.specs.Suited.{Taken, Suited}
+use Rattle.demand3_bytes.proofs.Suited.{Taken, Suited}
 
 -- ---- lists
 

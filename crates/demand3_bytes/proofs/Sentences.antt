@@ -10,9 +10,9 @@ use Rattle.states.specs.Kind.{bits}
 use Rattle.tables.specs.Lists.{Lists}
 use Rattle.rules.specs.Vector.{Write, Cause, rewritten, complete, ended, Item, wrote, shown}
 use Rattle.rules.specs.Gather.{Tables, width, Good, Act, time, write, Happening, at, of, begin, bit_write, happens, own}
-use Rattle.rules.specs.Gather.Laws.{own_append}
-use Rattle.rules.specs.Gather.Own.{bit_inside}
-use Rattle.rules.specs.Gather.Echo.{nothing_lost}
+use Rattle.rules.proofs.Gather.Laws.{own_append}
+use Rattle.rules.proofs.Gather.Own.{bit_inside}
+use Rattle.rules.proofs.Gather.Echo.{nothing_lost}
 use Rattle.rules.specs.Demand3 as whole
 use Rattle.records.specs.declared.Record.TheVariants.{Time}
 use Rattle.records.specs.Event.{record_bytes, record_of}
@@ -20,15 +20,20 @@ use Rattle.records.specs.Event as events
 use Rattle.gather.specs.Run.{gathers, events_of}
 use Rattle.gather.specs.Run.Rendered.{values_of}
 use Rattle.demand3_bytes.specs.Statements.{Labelled, shows, state_in, Shows, Moment, said, made, is_event_of, bit_of, writes_bit, Without, Waits, ByRewrite, ByCompletion, ByEnd, Sentences}
-use Rattle.demand3_bytes.specs.Own.{own_of}
-use Rattle.demand3_bytes.specs.Trace.{labelled, event_of, item_moments, moments, size, trace, trace_append}
-use Rattle.demand3_bytes.specs.Trace.Named.{Named, named, named_append}
-use Rattle.demand3_bytes.specs.Trace.Cuts.{AtWrite, AtEvent, at_write, at_event, at_time, before_time}
-use Rattle.demand3_bytes.specs.Trace.Stretches.{quiet_own, unwritten, waits_trace, waits_own}
-use Rattle.demand3_bytes.specs.Bits.{shows_event}
-use Rattle.demand3_bytes.specs.Stored.{SmallItems, small_at}
-use Rattle.demand3_bytes.specs.Causes.{Prompt, prompt, at_end, at_complete, at_rewrite}
-use Rattle.demand3_bytes.specs.Trace.Nexts.{one_event, by_end, Comes, comes, comes_left, waits_left, waits_bit, still}
+use Rattle.demand3_bytes.proofs.Own.{own_of}
+use Rattle.demand3_bytes.specs.Trace.{labelled}
+use Rattle.demand3_bytes.proofs.Trace.{event_of, item_moments, moments, size, trace, trace_append}
+use Rattle.demand3_bytes.specs.Trace.Named.{Named}
+use Rattle.demand3_bytes.proofs.Trace.Named.{named, named_append}
+use Rattle.demand3_bytes.proofs.Trace.Cuts.{AtWrite, AtEvent, at_write, at_event, at_time, before_time}
+use Rattle.demand3_bytes.proofs.Trace.Stretches.{quiet_own, unwritten, waits_trace, waits_own}
+use Rattle.demand3_bytes.proofs.Bits.{shows_event}
+use Rattle.demand3_bytes.specs.Stored.{SmallItems}
+use Rattle.demand3_bytes.proofs.Stored.{small_at}
+use Rattle.demand3_bytes.specs.Causes.{Prompt}
+use Rattle.demand3_bytes.proofs.Causes.{prompt, at_end, at_complete, at_rewrite}
+use Rattle.demand3_bytes.specs.Trace.Nexts.{Comes}
+use Rattle.demand3_bytes.proofs.Trace.Nexts.{one_event, by_end, comes, comes_left, waits_left, waits_bit, still}
 
 module _ (early : ℕ → Bool) (t : Lists) (good : Good (gathers t)) (acts : List Act)
     (d : whole.Demand3 early (gathers t) acts) where

@@ -11,9 +11,9 @@ use Rattle.std.proofs.Math.ListN.{length}
 use Rattle.states.specs.Kind.{bits}
 use Rattle.tables.specs.Lists.{Lists, nth}
 use Rattle.rules.specs.Vector.{Cause, began, wrote, shown, over}
-use Rattle.rules.specs.Vector.Laws.{by_test}
+use Rattle.rules.proofs.Vector.Laws.{by_test}
 use Rattle.rules.specs.Gather.{width, Good, Act, Happening, at, single, of, ends, own}
-use Rattle.rules.specs.Gather.Laws.{own_same}
+use Rattle.rules.proofs.Gather.Laws.{own_same}
 use Rattle.rules.specs.Demand3 as whole
 use Rattle.records.specs.declared.Record.TheVariants.{Time}
 use Rattle.records.specs.Event.{Event, record_of, record_bytes, event_value}
@@ -22,12 +22,13 @@ use Rattle.event_streams.specs.Stream.{record_at, is_time}
 use Rattle.gather.specs.Run.{gathers, events_of, of_vector}
 use Rattle.gather.specs.Run.Rendered.{values_of}
 use Rattle.demand3_bytes.specs.Statements.{Labelled, label_of, state_in, part_of, Tells}
-use Rattle.demand3_bytes.specs.Own.{own_at, own_single, own_ends, own_of, own_not}
-use Rattle.demand3_bytes.specs.Trace.{labelled, labelled_from, event_of, alone_event, size, size_nil, size_append}
+use Rattle.demand3_bytes.proofs.Own.{own_at, own_single, own_ends, own_of, own_not}
+use Rattle.demand3_bytes.specs.Trace.{labelled, labelled_from}
+use Rattle.demand3_bytes.proofs.Trace.{event_of, alone_event, size, size_nil, size_append}
 use Rattle.demand3_bytes.specs.Trace.Named.{Named}
-use Rattle.demand3_bytes.specs.Trace.Cuts.{alone_label, value_no_time, alone_no_time}
+use Rattle.demand3_bytes.proofs.Trace.Cuts.{alone_label, value_no_time, alone_no_time}
 use Rattle.demand3_bytes.specs.Stored.{SmallItems}
-use Rattle.demand3_bytes.specs.Sentences.{happened, named_behind, shows_at}
+use Rattle.demand3_bytes.proofs.Sentences.{happened, named_behind, shows_at}
 
 -- ---- which records are of a vector's part
 

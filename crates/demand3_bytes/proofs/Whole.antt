@@ -10,7 +10,8 @@ use Rattle.records.specs.Event.Laws.{length_time, length_value, length_real}
 use Rattle.event_streams.specs.Stream.{event_length}
 use Rattle.gather.specs.Run.Rendered.{rendered}
 use Rattle.demand3_bytes.specs.Statements.{Labelled, joined, labels, Whole, RecordsOf}
-use Rattle.demand3_bytes.specs.Trace.{labelled, labelled_from, joined_rendered, labels_labelled}
+use Rattle.demand3_bytes.specs.Trace.{labelled, labelled_from}
+use Rattle.demand3_bytes.proofs.Trace.{joined_rendered, labels_labelled}
 
 same : (r q : Labelled) → r.label ≡ q.label → r.bytes ≡ q.bytes → r ≡ q
 same r q e f =

@@ -20,8 +20,10 @@ use Rattle.event_streams.specs.Stream.{record_at, is_time}
 use Rattle.records.specs.Event as events
 use Rattle.gather.specs.Run.{gathers, alone}
 use Rattle.demand3_bytes.specs.Statements.{Labelled, label_of, state_in, Moment, said, made, bit_of}
-use Rattle.demand3_bytes.specs.Trace.Named.{Named, named_append}
-use Rattle.demand3_bytes.specs.Trace.{labelled, event_of, item_moments, moments, size, size_nil, size_append, trace}
+use Rattle.demand3_bytes.specs.Trace.Named.{Named}
+use Rattle.demand3_bytes.proofs.Trace.Named.{named_append}
+use Rattle.demand3_bytes.specs.Trace.{labelled}
+use Rattle.demand3_bytes.proofs.Trace.{event_of, item_moments, moments, size, size_nil, size_append, trace}
 
 -- ---- lists cut at a place
 

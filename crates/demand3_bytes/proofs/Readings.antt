@@ -13,7 +13,7 @@ use Rattle.tables.specs.Good.Laws.{limited, good}
 use Rattle.values.specs.declared.How.{How}
 use Rattle.rules.specs.Vector.{acts_early}
 use Rattle.rules.specs.Gather.{Good, Happening, begin, happens, own}
-use Rattle.rules.specs.Gather.Echo.{nothing_lost}
+use Rattle.rules.proofs.Gather.Echo.{nothing_lost}
 use Rattle.rules.specs.Demand3 as whole
 use Rattle.rules.specs.Scan.{Scan, acts}
 use Rattle.gather.specs.Run.{gathers, events_of}
@@ -28,13 +28,15 @@ use Rattle.entries.specs.Entries.Numbers.{checks_number}
 use Rattle.entries.specs.Entries.Reads.{checks_of, events_from}
 use Rattle.entries.specs.Demands.{Demand1, Demand2, sections_1, sections_2, sections_3, changes_1, changes_2, changes_3}
 use Rattle.demand3_bytes.specs.Statements.{state_in, Demand3, events_in, values_in, OnBytes}
-use Rattle.demand3_bytes.specs.Trace.{labelled_from, size, trace, trace_made, trace_said}
-use Rattle.demand3_bytes.specs.Stored.{SmallItems, shown_small}
-use Rattle.demand3_bytes.specs.Suited.{Suited, sections_suited, changes_suited}
-use Rattle.demand3_bytes.specs.Watched.{acts_fit}
-use Rattle.demand3_bytes.specs.Sentences.{sentences}
-use Rattle.demand3_bytes.specs.Tells.{tells}
-use Rattle.demand3_bytes.specs.Whole.{has_records, records_are}
+use Rattle.demand3_bytes.specs.Trace.{labelled_from}
+use Rattle.demand3_bytes.proofs.Trace.{size, trace, trace_made, trace_said}
+use Rattle.demand3_bytes.specs.Stored.{SmallItems}
+use Rattle.demand3_bytes.proofs.Stored.{shown_small}
+use Rattle.demand3_bytes.proofs.Suited.{Suited, sections_suited, changes_suited}
+use Rattle.demand3_bytes.proofs.Watched.{acts_fit}
+use Rattle.demand3_bytes.proofs.Sentences.{sentences}
+use Rattle.demand3_bytes.proofs.Tells.{tells}
+use Rattle.demand3_bytes.proofs.Whole.{has_records, records_are}
 
 -- whatever scans the input
 module _ (t : Lists) (input : ℕ) (l : Lent) (sc : Scan) (x : Left) (d1 : Demand1 t input l x)

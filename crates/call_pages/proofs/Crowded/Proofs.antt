@@ -9,9 +9,10 @@ use Rattle.std.proofs.Math.ListN.{length}
 use Rattle.std.proofs.Math.Dec.{leb}
 use Rattle.slices.specs.Choice.{cond_ind, le_or_lt, tri, apart}
 use Rattle.states.specs.Packed.Bytes.{get_d_past}
-use Rattle.rules.specs.Vector.Laws.{by_test, never_both}
+use Rattle.rules.proofs.Vector.Laws.{by_test, never_both}
 use Rattle.rules.specs.Gather.{elem}
 use Rattle.rules.specs.Gather.Laws as lists
+use Rattle.rules.proofs.Gather.Laws as list_laws
 use Rattle.step_ends.specs.declared.Names.{Names}
 use Rattle.step_ends.specs.declared.Watch.{Watch}
 use Rattle.step_ends.specs.Steps.{Steps, unseen, step_ends, rose}
@@ -25,7 +26,8 @@ use Rattle.fragments.specs.Counting.{closes}
 use Rattle.courses.specs.Course.{Course, adds, done, fault, Ends, Faults, Told}
 use Rattle.courses.specs.Benched.{seats, counts, drops, benched_from, benched}
 use Rattle.call_pages.specs.Crowded.{without, joined, parted, crowded_from, crowded}
-use Rattle.call_pages.specs.Crowded.Places.{live, taken_not, free_less, full_all, counted_new, counted_old, dropped_one, live_none}
+use Rattle.call_pages.specs.Crowded.Places.{live}
+use Rattle.call_pages.proofs.Crowded.Places.{taken_not, free_less, full_all, counted_new, counted_old, dropped_one, live_none}
 
 -- ---- the list of live sessions
 
@@ -46,7 +48,7 @@ unfolding without elem
 without_other x y [] n = refl
 without_other x y (z ∷ l) n =
     by_test (eqb x z)
-    (λ q. rw q (sym (lists.elem_cons y z l (λ e. n (e ∙ sym (eqb-true x z q))))))
+    (λ q. rw q (sym (list_laws.elem_cons y z l (λ e. n (e ∙ sym (eqb-true x z q))))))
     (λ q. rw (q, without_other x y l n))
 
 without_same : (x : ℕ) (l : List ℕ) → lists.Distinct l → elem x (without x l) ≡ false

@@ -1,6 +1,6 @@
 -- The bits of an event, found in the value buffer by its record.
 -- Assumes nothing.
-use Rattle.std.specs.Prelude.{ℕ, ◌+◌, ◌-◌, ◌*◌, ◌/◌, ◌%◌, ◌^◌, ◌≤◌, ◌<◌, ◌≡◌, refl, List, [], ◌∷◌, ◌++◌, get_or}
+use Rattle.std.specs.Prelude.{ℕ, ◌+◌, ◌-◌, ◌*◌, ◌/◌, ◌%◌, ◌^◌, ◌≤◌, ◌<◌, ◌≡◌, refl, List, ◌∷◌, ◌++◌, get_or}
 use Rattle.std.proofs.Math.Path.{ap}
 use Rattle.std.proofs.Common.{◌∙◌, append_assoc, zero-add, mod-eq_of_lt, arith, get_or-append-add}
 use Rattle.std.proofs.Math.ListN.{length, length-append, get_or-append}
@@ -22,7 +22,8 @@ use Rattle.event_streams.specs.Stream.{record_at}
 use Rattle.gather.specs.Run.{events_of, of_vector}
 use Rattle.gather.specs.Run.Rendered.{values_of}
 use Rattle.demand3_bytes.specs.Statements.{label_of, bit_in, shows, state_in, Shows}
-use Rattle.demand3_bytes.specs.Trace.{labelled, event_of, size, events_append, values_append}
+use Rattle.demand3_bytes.specs.Trace.{labelled}
+use Rattle.demand3_bytes.proofs.Trace.{event_of, size, events_append, values_append}
 
 -- ---- a field of bytes that lie among others
 

@@ -36,15 +36,17 @@ use Rattle.entries.specs.Written.{write_sections, read_back}
 use Rattle.bench.specs.Bench as benching
 use Rattle.courses.specs.Course.{Course, Ends, Faults, Told, fill}
 use Rattle.courses.specs.Ruled.{ruled}
-use Rattle.courses.specs.Ruled.Laws.{ended_of, ruled_fills, ruled_reads}
+use Rattle.courses.specs.Ruled.Laws.{ended_of}
+use Rattle.courses.proofs.Ruled.Laws.{ruled_fills, ruled_reads}
 use Rattle.courses.specs.Written.{written}
-use Rattle.courses.specs.Written.Laws.{written_fills, written_orderly}
+use Rattle.courses.proofs.Written.Laws.{written_fills, written_orderly}
 use Rattle.courses.specs.GivenBack.{given_back}
-use Rattle.courses.specs.GivenBack.Laws.{back_fills, given_told}
+use Rattle.courses.proofs.GivenBack.Laws.{back_fills, given_told}
 use Rattle.courses.specs.Benched.{benched}
-use Rattle.courses.specs.Benched.Laws.{benched_fills}
-use Rattle.call_pages.specs.Crowded.Proofs.{benched_crowded}
-use Rattle.call_pages.specs.Exact.Proofs.{calls, exact, only}
+use Rattle.courses.proofs.Benched.Laws.{benched_fills}
+use Rattle.call_pages.proofs.Crowded.Proofs.{benched_crowded}
+use Rattle.call_pages.specs.Exact.Proofs.{calls}
+use Rattle.call_pages.proofs.Exact.Proofs.{exact, only}
 use Rattle.call_pages.specs.Pages.{Shaped, rule_checks, RulePage, bench_checks, BenchPage, WritePage, BackPage}
 
 -- ---- checks, and their numbers

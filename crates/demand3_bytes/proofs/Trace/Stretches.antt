@@ -10,18 +10,21 @@ use Rattle.std.proofs.Math.Dec.{eqb-zero-suc}
 use borrow.Author.Tests.{eqb-true, eqb-false, eq-eqb, ne_eqb}
 use Rattle.tables.specs.Lists.{Lists, nth}
 use Rattle.rules.specs.Vector.{Write, began, wrote, shown, over}
-use Rattle.rules.specs.Vector.Laws.{by_test}
+use Rattle.rules.proofs.Vector.Laws.{by_test}
 use Rattle.rules.specs.Gather.{Happening, at, single, of, ends, own}
-use Rattle.rules.specs.Gather.Laws.{own_same, own_append}
+use Rattle.rules.proofs.Gather.Laws.{own_same, own_append}
 use Rattle.rules.specs.History as history
 use Rattle.rules.specs.History.{is_event, is_closing}
 use Rattle.rules.specs.History.Laws as histories
 use Rattle.gather.specs.Run.{gathers}
 use Rattle.demand3_bytes.specs.Statements.{label_of, is_event_of, is_step_end, writes_bit, Without, Waits}
-use Rattle.demand3_bytes.specs.Own.{own_at, own_single, own_ends, own_of, own_not, is_inner, own_place}
-use Rattle.demand3_bytes.specs.Trace.{labelled, item_moments, moments, size, trace, trace_append}
-use Rattle.demand3_bytes.specs.Trace.Named.{Named, named_append}
-use Rattle.demand3_bytes.specs.Trace.Cuts.{alone_label, at_write}
+use Rattle.demand3_bytes.specs.Own.{is_inner}
+use Rattle.demand3_bytes.proofs.Own.{own_at, own_single, own_ends, own_of, own_not, own_place}
+use Rattle.demand3_bytes.specs.Trace.{labelled}
+use Rattle.demand3_bytes.proofs.Trace.{item_moments, moments, size, trace, trace_append}
+use Rattle.demand3_bytes.specs.Trace.Named.{Named}
+use Rattle.demand3_bytes.proofs.Trace.Named.{named_append}
+use Rattle.demand3_bytes.proofs.Trace.Cuts.{alone_label, at_write}
 
 module _ (t : Lists) (v : ℕ) where
   -- whether or not a happening is of this vector
@@ -36,48 +39,48 @@ module _ (t : Lists) (v : ℕ) where
   pub quiet_own : (s : ℕ) (h : List Happening) → Without (is_event_of v) (trace t s h) → history.Without is_event (own v h)
   unfolding trace moments item_moments labelled label_of is_event_of Without history.Without is_event
   quiet_own s [] q = rw (own_same v []) tt
-  quiet_own s (at u ∷ h) q = rw own_at (refl, quiet_own _ h q.1.1)
-  quiet_own s (single i x p ∷ h) q = rw own_single (quiet_own _ h q.1.1)
+  quiet_own s (at u ∷ h) q = rw own_at (refl, quiet_own (s + size t (at u ∷ [])) h q.1.1)
+  quiet_own s (single i x p ∷ h) q = rw own_single (quiet_own (s + size t (single i x p ∷ [])) h q.1.1)
   quiet_own s (of u (began w) ∷ h) q =
-      of_either u (λ e. rw (← e, own_of) (refl, quiet_own _ h q.1))
-      (λ e. rw (own_not v h u (began w) (eqb-false v u e)) (quiet_own _ h q.1))
+      of_either u (λ e. rw (← e, own_of) (refl, quiet_own (s + size t (of u (began w) ∷ [])) h q.1))
+      (λ e. rw (own_not v h u (began w) (eqb-false v u e)) (quiet_own (s + size t (of u (began w) ∷ [])) h q.1))
   quiet_own s (of u (wrote w) ∷ h) q =
-      of_either u (λ e. rw (← e, own_of) (refl, quiet_own _ h q.1))
-      (λ e. rw (own_not v h u (wrote w) (eqb-false v u e)) (quiet_own _ h q.1))
+      of_either u (λ e. rw (← e, own_of) (refl, quiet_own (s + size t (of u (wrote w) ∷ [])) h q.1))
+      (λ e. rw (own_not v h u (wrote w) (eqb-false v u e)) (quiet_own (s + size t (of u (wrote w) ∷ [])) h q.1))
   quiet_own s (of u (shown c l) ∷ h) q =
       of_either u (λ e. absurd (eqb-false (suc u) (suc v) q.0 (ap suc (sym e))))
-      (λ e. rw (own_not v h u (shown c l) (eqb-false v u e)) (quiet_own _ h q.1))
+      (λ e. rw (own_not v h u (shown c l) (eqb-false v u e)) (quiet_own (s + size t (of u (shown c l) ∷ [])) h q.1))
   quiet_own s (of u over ∷ h) q =
-      of_either u (λ e. rw (← e, own_of) (refl, quiet_own _ h q.1))
-      (λ e. rw (own_not v h u over (eqb-false v u e)) (quiet_own _ h q.1))
-  quiet_own s (ends ∷ h) q = rw own_ends (refl, quiet_own _ h q.1)
+      of_either u (λ e. rw (← e, own_of) (refl, quiet_own (s + size t (of u over ∷ [])) h q.1))
+      (λ e. rw (own_not v h u over (eqb-false v u e)) (quiet_own (s + size t (of u over ∷ [])) h q.1))
+  quiet_own s (ends ∷ h) q = rw own_ends (refl, quiet_own (s + size t (ends ∷ [])) h q.1)
 
   pub quiet_trace : (s : ℕ) (h : List Happening) → history.Without is_event (own v h)
       → Without (is_event_of v) (trace t s h)
   unfolding trace moments item_moments labelled label_of is_event_of Without history.Without is_event
   quiet_trace s [] q = tt
-  quiet_trace s (at u ∷ h) q = let r = rw own_at at q in (refl, (eqb-zero-suc v, quiet_trace _ h r.1))
+  quiet_trace s (at u ∷ h) q = let r = rw own_at at q in (refl, (eqb-zero-suc v, quiet_trace (s + size t (at u ∷ [])) h r.1))
   quiet_trace s (single i x p ∷ h) q = (
     refl,
     (
       rw (alone_label (nth t.kinds i) (nth t.refs i) x) (eqb-zero-suc v),
-      quiet_trace _ h
+      quiet_trace (s + size t (single i x p ∷ [])) h
           (rw own_single at q),
     ),
   )
   quiet_trace s (of u (began w) ∷ h) q =
-      of_either u (λ e. let r = rw (← e, own_of) at q in (refl, quiet_trace _ h r.1))
-      (λ e. (refl, quiet_trace _ h (rw (own_not v h u (began w) (eqb-false v u e)) at q)))
+      of_either u (λ e. let r = rw (← e, own_of) at q in (refl, quiet_trace (s + size t (of u (began w) ∷ [])) h r.1))
+      (λ e. (refl, quiet_trace (s + size t (of u (began w) ∷ [])) h (rw (own_not v h u (began w) (eqb-false v u e)) at q)))
   quiet_trace s (of u (wrote w) ∷ h) q =
-      of_either u (λ e. let r = rw (← e, own_of) at q in (refl, quiet_trace _ h r.1))
-      (λ e. (refl, quiet_trace _ h (rw (own_not v h u (wrote w) (eqb-false v u e)) at q)))
+      of_either u (λ e. let r = rw (← e, own_of) at q in (refl, quiet_trace (s + size t (of u (wrote w) ∷ [])) h r.1))
+      (λ e. (refl, quiet_trace (s + size t (of u (wrote w) ∷ [])) h (rw (own_not v h u (wrote w) (eqb-false v u e)) at q)))
   quiet_trace s (of u (shown c l) ∷ h) q =
       of_either u (λ e. let r = rw (← e, own_of) at q in absurd (true≢false r.0))
-      (λ e. (other_label u e, quiet_trace _ h (rw (own_not v h u (shown c l) (eqb-false v u e)) at q)))
+      (λ e. (other_label u e, quiet_trace (s + size t (of u (shown c l) ∷ [])) h (rw (own_not v h u (shown c l) (eqb-false v u e)) at q)))
   quiet_trace s (of u over ∷ h) q =
-      of_either u (λ e. let r = rw (← e, own_of) at q in (refl, quiet_trace _ h r.1))
-      (λ e. (refl, quiet_trace _ h (rw (own_not v h u over (eqb-false v u e)) at q)))
-  quiet_trace s (ends ∷ h) q = let r = rw own_ends at q in (refl, quiet_trace _ h r.1)
+      of_either u (λ e. let r = rw (← e, own_of) at q in (refl, quiet_trace (s + size t (of u over ∷ [])) h r.1))
+      (λ e. (refl, quiet_trace (s + size t (of u over ∷ [])) h (rw (own_not v h u over (eqb-false v u e)) at q)))
+  quiet_trace s (ends ∷ h) q = let r = rw own_ends at q in (refl, quiet_trace (s + size t (ends ∷ [])) h r.1)
 
   -- ---- no step's end
 
@@ -85,15 +88,15 @@ module _ (t : Lists) (v : ℕ) where
       → Without is_step_end (trace t s h)
   unfolding trace moments item_moments is_step_end Without history.Without is_closing Named
   within_step s [] n q = tt
-  within_step s (at u ∷ h) n q = let r = rw own_at at q in (refl, (refl, within_step _ h n r.1))
-  within_step s (single i x p ∷ h) n q = (refl, (refl, within_step _ h n.1 (rw own_single at q)))
+  within_step s (at u ∷ h) n q = let r = rw own_at at q in (refl, (refl, within_step (s + size t (at u ∷ [])) h n r.1))
+  within_step s (single i x p ∷ h) n q = (refl, (refl, within_step (s + size t (single i x p ∷ [])) h n.1 (rw own_single at q)))
   within_step s (of u (began w) ∷ h) n q = absurd n
   within_step s (of u (wrote w) ∷ h) n q =
-      of_either u (λ e. let r = rw (← e, own_of) at q in (refl, within_step _ h n.1 r.1))
-      (λ e. (refl, within_step _ h n.1 (rw (own_not v h u (wrote w) (eqb-false v u e)) at q)))
+      of_either u (λ e. let r = rw (← e, own_of) at q in (refl, within_step (s + size t (of u (wrote w) ∷ [])) h n.1 r.1))
+      (λ e. (refl, within_step (s + size t (of u (wrote w) ∷ [])) h n.1 (rw (own_not v h u (wrote w) (eqb-false v u e)) at q)))
   within_step s (of u (shown c l) ∷ h) n q =
       of_either u (λ e. let r = rw (← e, own_of) at q in absurd (true≢false r.0))
-      (λ e. (refl, within_step _ h n (rw (own_not v h u (shown c l) (eqb-false v u e)) at q)))
+      (λ e. (refl, within_step (s + size t (of u (shown c l) ∷ [])) h n (rw (own_not v h u (shown c l) (eqb-false v u e)) at q)))
   within_step s (of u over ∷ h) n q = absurd n
   within_step s (ends ∷ h) n q = let r = rw own_ends at q in absurd (true≢false r.0)
 
@@ -103,21 +106,21 @@ module _ (t : Lists) (v : ℕ) where
       → Without (writes_bit (gathers t) v k) (trace t s h) → history.Without (history.writes_bit k) (own v h)
   unfolding trace moments item_moments writes_bit Without history.Without history.writes_bit Named
   unwritten k s [] n q = rw (own_same v []) tt
-  unwritten k s (at u ∷ h) n q = rw own_at (refl, unwritten k _ h n q.1.1)
-  unwritten k s (single i x p ∷ h) n q = rw own_single (unwritten k _ h n.1 q.1.1)
+  unwritten k s (at u ∷ h) n q = rw own_at (refl, unwritten k (s + size t (at u ∷ [])) h n q.1.1)
+  unwritten k s (single i x p ∷ h) n q = rw own_single (unwritten k (s + size t (single i x p ∷ [])) h n.1 q.1.1)
   unwritten k s (of u (began w) ∷ h) n q = absurd n
   unwritten k s (of u (wrote w) ∷ h) n q =
       of_either u
       (λ e.
       let p = rw (← e) at n.0 in
       let o = rw (← e, eq-eqb _ _ p.0, p.1) at q.0 in
-      rw (← e, own_of) (o, unwritten k _ h n.1 q.1))
-      (λ e. rw (own_not v h u (wrote w) (eqb-false v u e)) (unwritten k _ h n.1 q.1))
+      rw (← e, own_of) (o, unwritten k (s + size t (of u (wrote w) ∷ [])) h n.1 q.1))
+      (λ e. rw (own_not v h u (wrote w) (eqb-false v u e)) (unwritten k (s + size t (of u (wrote w) ∷ [])) h n.1 q.1))
   unwritten k s (of u (shown c l) ∷ h) n q =
-      of_either u (λ e. rw (← e, own_of) (refl, unwritten k _ h n q.1))
-      (λ e. rw (own_not v h u (shown c l) (eqb-false v u e)) (unwritten k _ h n q.1))
+      of_either u (λ e. rw (← e, own_of) (refl, unwritten k (s + size t (of u (shown c l) ∷ [])) h n q.1))
+      (λ e. rw (own_not v h u (shown c l) (eqb-false v u e)) (unwritten k (s + size t (of u (shown c l) ∷ [])) h n q.1))
   unwritten k s (of u over ∷ h) n q = absurd n
-  unwritten k s (ends ∷ h) n q = rw own_ends (refl, unwritten k _ h n q.1)
+  unwritten k s (ends ∷ h) n q = rw own_ends (refl, unwritten k (s + size t (ends ∷ [])) h n q.1)
 
   -- ---- a write that waits
 

@@ -1,0 +1,3 @@
+pub mod Crowded
+pub mod Exact
+pub mod Pages

@@ -1,0 +1,5 @@
+pub mod Benched
+pub mod Course
+pub mod GivenBack
+pub mod Ruled
+pub mod Written

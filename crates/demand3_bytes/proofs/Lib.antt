@@ -1,0 +1,12 @@
+pub mod Bits
+pub mod Causes
+pub mod Mistakes
+pub mod Own
+pub mod Readings
+pub mod Sentences
+pub mod Stored
+pub mod Suited
+pub mod Tells
+pub mod Trace
+pub mod Watched
+pub mod Whole
