@@ -1,4 +1,6 @@
 // An answer as a line of text, for the programs that show stored cases.
+#![tactic(auto)]
+
 ghost use Rattle.std.specs.Prelude.{◌≡◌};
 ghost use Rattle.plain_text.specs.Text.{Holds};
 ghost use Rattle.plain_text.specs.Text.Laws.{Adds};

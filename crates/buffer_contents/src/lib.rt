@@ -1,4 +1,6 @@
 // What a buffer holds, told by a look at each of its numbers.
+#![tactic(auto)]
+
 pub mod parts;
 
 ghost use Rattle.std.specs.Prelude.{◌≡◌, get_or};

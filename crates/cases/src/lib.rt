@@ -1,4 +1,6 @@
 // Stored cases as text: parts between marks, numbers, and lists of them.
+#![tactic(auto)]
+
 ghost use Rattle.std.specs.Prelude.{◌≡◌, ◌≤◌, drop};
 ghost use Rattle.cases.specs.Cases.{before, after, part, digit, spelled, Listed, Unhexed};
 

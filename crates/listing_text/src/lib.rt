@@ -1,10 +1,11 @@
 // The listing: its preamble, and the text of what section reading finds.
+#![tactic(auto)]
+
 mod lines;
 
 ghost use Rattle.std.specs.Prelude.{◌≡◌, min, ◌≤◌, drop};
-ghost use Rattle.io.specs.Counts.{IsPrefixLen};
 ghost use Rattle.tables.specs.Lists.{lists};
-ghost use Rattle.plain_text.specs.Text.{Holds, Prints};
+ghost use Rattle.plain_text.specs.Text.{IsPrefixLen, Holds, Prints};
 ghost use Rattle.listing_text.specs.Lines.{refused_word, pair_line};
 ghost use Rattle.preamble.specs.Preamble.{preamble};
 ghost use Rattle.preamble.specs.Preamble.Loop.{up_to};

@@ -85,13 +85,13 @@ fn event_line(text: &mut [u8], at: usize, values: &[u8], event: Record) -> usize
 }
 
 // How far the events have been read, and where the text ends.
-#[derive(Drop)]
+#[derive(Clone, Copy)]
 struct Progress {
     read: usize,
     end: usize,
 }
 
-#[derive(Drop)]
+#[derive(Clone, Copy)]
 enum Turn {
     More(Progress),
     Over,

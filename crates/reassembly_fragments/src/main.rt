@@ -1,13 +1,16 @@
 // Prints a line for each fragment of a recorded reassembly, `fragment`, time and session: from standard input, as the listing reads it, through section
 // reading, the time rule and the bench.
-mod records;
+#![tactic(auto)]
+
+mod bench_records;
 mod text;
 
 use answers::Answer;
+use bench_records::fragments;
 use buffer_contents::parts::{first_bytes, first_numbers, rest};
-use libc::STDIN_FILENO;
+use full_reads::read_full;
 use preamble::{Opened, read_preamble};
-use records::fragments;
+use std::io;
 use text::refused;
 
 const SESSION: u32 = 3;
@@ -17,32 +20,35 @@ const STROBE: u32 = 4;
 const CLOSE: u32 = 5;
 
 // What was accepted goes on, a refusal is printed.
-fn good(a: Answer) -> bool {
+fn good(rt: &impl Print, a: Answer) -> io::Result<bool> {
     if a.number == 0 {
-        return true;
+        return Ok(true);
     }
-    refused(a.number, a.place);
-    false
+    refused(rt, a.number, a.place)?;
+    Ok(false)
 }
 
-fn benched(kept: &[u8], values: &[u8]) {
+fn benched(rt: &impl Print, kept: &[u8], values: &[u8]) -> io::Result<()> {
     let mut out = [0u8; 16384];
     let a = bench::doorquill_bench(kept, values, SESSION, STROBE, CLOSE, &mut out);
-    if good(a) {
-        fragments(first_bytes(&out, a.events as usize));
+    if good(rt, a)? {
+        fragments(rt, first_bytes(&out, a.events as usize))?;
     }
+    Ok(())
 }
 
-fn ruled(events: &[u8], values: &[u8]) {
+fn ruled(rt: &impl Print, events: &[u8], values: &[u8]) -> io::Result<()> {
     let mut kept = [0u8; 16384];
     let a = doorquill::doorquill_time_rule(events, values, &mut kept);
-    if good(a) {
-        benched(first_bytes(&kept, a.events as usize), values);
+    if good(rt, a)? {
+        benched(rt, first_bytes(&kept, a.events as usize), values)?;
     }
+    Ok(())
 }
 
 // Section reading, over the rooms that the listing lends.
 fn read<'a>(
+    rt: &impl Print,
     kinds: &'a [u8],
     refs: &'a [u32],
     vecs: &'a [u32],
@@ -52,7 +58,7 @@ fn read<'a>(
     vec_refs: &'a [u32],
     big_endian: bool,
     s: &[u8],
-) {
+) -> io::Result<()> {
     let mut events = [0u8; 16384];
     let mut values = [0u8; 8192];
     let mut room = [0u8; 264];
@@ -73,16 +79,18 @@ fn read<'a>(
         &mut room,
         &mut list,
     );
-    if good(a) {
+    if good(rt, a)? {
         ruled(
+            rt,
             first_bytes(&events, a.events as usize),
             first_bytes(&values, a.values as usize),
-        );
+        )?;
     }
+    Ok(())
 }
 
 // The tables, and the section bytes after them.
-fn opened(input: &[u8]) {
+fn opened(rt: &impl Print, input: &[u8]) -> io::Result<()> {
     let mut kinds = [0u8; 256];
     let mut refs = [0u32; 256];
     let mut vecs = [0u32; 256];
@@ -106,6 +114,7 @@ fn opened(input: &[u8]) {
             big_endian,
             at,
         } => read(
+            rt,
             first_bytes(&kinds, signals),
             first_numbers(&refs, signals),
             first_numbers(&vecs, signals),
@@ -116,12 +125,12 @@ fn opened(input: &[u8]) {
             big_endian,
             rest(input, at),
         ),
-        Opened::Refused(number, place) => refused(number, place as u64),
+        Opened::Refused(number, place) => refused(rt, number, place as u64),
     }
 }
 
-fn main() {
+fn main(rt: HostRuntime) -> io::Result<()> {
     let mut input = [0u8; 32769];
-    let n = io::read_full(STDIN_FILENO, &mut input);
-    opened(&input[..n]);
+    let n = read_full(&mut rt.reader(), &mut input)?;
+    opened(&rt, &input[..n])
 }

@@ -3,7 +3,7 @@
 use answers::Answer;
 use buffer_contents::parts::{first_bytes, first_numbers};
 use buffer_contents::{all_zero, holds};
-use libc::STDOUT_FILENO;
+use std::io;
 
 // A tailer alone.
 const TAILER: [u8; 12] = *b"TAI\0\0\0\0\0\0\0\0\0";
@@ -14,29 +14,28 @@ const ONE_CHANGE: [u8; 33] = *b"CYC\0\0\0\0\0\0\0\0\0\xb9\x64\x05\0\x7fECY\0TAI\
 // What that makes: the time 0, and a two-state value of reference 1, one byte at the start of the values.
 const MADE: [u8; 22] = *b"\x01\0\0\0\0\0\0\0\0\x02\0\0\0\x01\0\0\0\0\0\0\0\x01";
 
-fn say(words: &[u8]) {
-    io::write_all(STDOUT_FILENO, words);
+fn say(rt: &impl Print, words: &[u8]) -> io::Result<()> {
+    rt.write_all(words)
 }
 
 // A number after a space.
-fn next(n: u64) {
-    say(b" ");
-    io::print_decimal(STDOUT_FILENO, n);
+fn next(rt: &impl Print, n: u64) -> io::Result<()> {
+    print!(rt; " {n}")
 }
 
-fn show(label: &[u8], a: Answer, left: bool) {
-    say(label);
-    say(b":");
-    next(a.number);
-    next(a.place);
-    next(a.read);
-    next(a.events);
-    next(a.values);
-    next(a.steps);
+fn show(rt: &impl Print, label: &[u8], a: Answer, left: bool) -> io::Result<()> {
+    say(rt, label)?;
+    say(rt, b":")?;
+    next(rt, a.number)?;
+    next(rt, a.place)?;
+    next(rt, a.read)?;
+    next(rt, a.events)?;
+    next(rt, a.values)?;
+    next(rt, a.steps)?;
     if left {
-        say(b", buffers as they must be\n");
+        say(rt, b", buffers as they must be\n")
     } else {
-        say(b", BUFFERS NOT\n");
+        say(rt, b", BUFFERS NOT\n")
     }
 }
 
@@ -54,6 +53,7 @@ fn is_left(
 
 // One input over signals alone, and the event and value bytes that must come of it. Every lent buffer is full of garbage.
 fn run<'a>(
+    rt: &impl Print,
     label: &[u8],
     kinds: &'a [u8],
     refs: &'a [u32],
@@ -61,7 +61,7 @@ fn run<'a>(
     input: &[u8],
     made: &[u8],
     shown: &[u8],
-) {
+) -> io::Result<()> {
     let mut events = [0xa5u8; 64];
     let mut values = [0x5au8; 16];
     let mut room = [0xc3u8; 16];
@@ -83,18 +83,28 @@ fn run<'a>(
         &mut list,
     );
     show(
+        rt,
         label,
         a,
         is_left(&events, &values, &room, &list, made, shown),
-    );
+    )
 }
 
 // So many signals of one kind.
-fn alike(label: &[u8], kind: u8, n: usize, input: &[u8], made: &[u8], shown: &[u8]) {
+fn alike(
+    rt: &impl Print,
+    label: &[u8],
+    kind: u8,
+    n: usize,
+    input: &[u8],
+    made: &[u8],
+    shown: &[u8],
+) -> io::Result<()> {
     let kinds = [kind; 65536];
     let refs = [1u32; 65536];
     let vecs = [0u32; 65536];
     run(
+        rt,
         label,
         first_bytes(&kinds, n),
         first_numbers(&refs, n),
@@ -102,18 +112,35 @@ fn alike(label: &[u8], kind: u8, n: usize, input: &[u8], made: &[u8], shown: &[u
         input,
         made,
         shown,
-    );
+    )
 }
 
-pub(crate) fn all() {
-    alike(b"A2, 65536 signals of kind 2", 2, 65536, &TAILER, b"", b"");
+pub(crate) fn all(rt: &impl Print) -> io::Result<()> {
     alike(
+        rt,
+        b"A2, 65536 signals of kind 2",
+        2,
+        65536,
+        &TAILER,
+        b"",
+        b"",
+    )?;
+    alike(
+        rt,
         b"B9 64 of 12857 signals",
         4,
         12857,
         &ONE_CHANGE,
         &MADE,
         b"\x05",
-    );
-    alike(b"B9 64 of 12856 signals", 4, 12856, &ONE_CHANGE, b"", b"");
+    )?;
+    alike(
+        rt,
+        b"B9 64 of 12856 signals",
+        4,
+        12856,
+        &ONE_CHANGE,
+        b"",
+        b"",
+    )
 }

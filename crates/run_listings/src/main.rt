@@ -1,43 +1,47 @@
 // Section reading on inputs of some size: those of the readings that are too large to be stored, and the listings of real files, each a line of standard input
 // in hex; `#` begins a remark.
+#![tactic(auto)]
+
 mod large;
 
 use buffer_contents::byte_or_zero;
 use buffer_contents::parts::{first_bytes, rest};
 use cases::{after, before, unhex};
-use libc::{STDIN_FILENO, STDOUT_FILENO};
+use full_reads::read_full;
+use std::io;
 
-fn show(input: &[u8]) {
-    let mut text = io::large_buffer();
+fn show(rt: &impl Print, input: &[u8]) -> io::Result<()> {
+    let mut text = [0u8; 65536];
     let k = listing_text::print(input, &mut text);
-    io::write_all(STDOUT_FILENO, &text[..k]);
+    rt.write_all(&text[..k])
 }
 
-fn one(line: &[u8]) {
+fn one(rt: &impl Print, line: &[u8]) -> io::Result<()> {
     if byte_or_zero(line, 0) == b'#' {
-        return;
+        return Ok(());
     }
     let mut input = [0u8; 8192];
     let n = unhex(line, &mut input);
-    show(first_bytes(&input, n));
+    show(rt, first_bytes(&input, n))
 }
 
-fn all(text: &[u8]) {
+fn all(rt: &impl Print, text: &[u8]) -> io::Result<()> {
     let mut at: usize = 0;
     let mut left: usize = text.len();
     while 0 < left {
         if text.len() <= at {
-            return;
+            return Ok(());
         }
-        one(before(rest(text, at), b'\n'));
+        one(rt, before(rest(text, at), b'\n'))?;
         at = after(text, b'\n', at);
         left -= 1;
     }
+    Ok(())
 }
 
-fn main() {
-    large::all();
-    let mut text = io::large_buffer();
-    let n = io::read_full(STDIN_FILENO, &mut text);
-    all(&text[..n]);
+fn main(rt: HostRuntime) -> io::Result<()> {
+    large::all(&rt)?;
+    let mut text = [0u8; 65536];
+    let n = read_full(&mut rt.reader(), &mut text)?;
+    all(&rt, &text[..n])
 }

@@ -5,30 +5,31 @@ use crate::text;
 use buffer_contents::byte_or_zero;
 use buffer_contents::parts::first_bytes;
 use leb128::Leb;
+use std::io;
 
-fn show(r: Leb, signed: bool) {
+fn show(rt: &impl Print, r: Leb, signed: bool) -> io::Result<()> {
     match r {
         Leb::Value(v, next) => {
             if signed {
-                text::signed(v);
+                text::signed(rt, v)?;
             } else {
-                text::decimal(v);
+                text::decimal(rt, v)?;
             }
-            text::say(b" to ");
-            text::decimal(next as u64);
+            text::say(rt, b" to ")?;
+            text::decimal(rt, next as u64)
         }
-        Leb::Short => text::say(b"short"),
-        Leb::Large => text::say(b"large"),
+        Leb::Short => text::say(rt, b"short"),
+        Leb::Large => text::say(rt, b"large"),
     }
 }
 
-pub(crate) fn both(label: &[u8], s: &[u8], at: usize) {
-    text::say(label);
-    text::say(b": unsigned ");
-    show(leb128::unsigned(s, at), false);
-    text::say(b", signed ");
-    show(leb128::signed(s, at), true);
-    text::say(b"\n");
+pub(crate) fn both(rt: &impl Print, label: &[u8], s: &[u8], at: usize) -> io::Result<()> {
+    text::say(rt, label)?;
+    text::say(rt, b": unsigned ")?;
+    show(rt, leb128::unsigned(s, at), false)?;
+    text::say(rt, b", signed ")?;
+    show(rt, leb128::signed(s, at), true)?;
+    text::say(rt, b"\n")
 }
 
 fn read(s: &[u8], at: usize, signed: bool) -> Leb {
@@ -119,18 +120,24 @@ fn count(which: u8, turns: u64, signed: bool) -> u64 {
 }
 
 // How many of some vectors come out as a plain formula has them, and how many do not.
-pub(crate) fn tally(label: &[u8], which: &[u8], turns: u64, all: u64) {
+pub(crate) fn tally(
+    rt: &impl Print,
+    label: &[u8],
+    which: &[u8],
+    turns: u64,
+    all: u64,
+) -> io::Result<()> {
     let agree = count(
         byte_or_zero(which, 0),
         turns,
         byte_or_zero(label, 0) == b's',
     );
-    text::say(label);
-    text::say(b": agree ");
-    text::decimal(agree);
-    text::say(b", differ ");
+    text::say(rt, label)?;
+    text::say(rt, b": agree ")?;
+    text::decimal(rt, agree)?;
+    text::say(rt, b", differ ")?;
     if agree <= all {
-        text::decimal(all - agree);
+        text::decimal(rt, all - agree)?;
     }
-    text::say(b"\n");
+    text::say(rt, b"\n")
 }

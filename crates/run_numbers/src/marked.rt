@@ -6,6 +6,7 @@ ghost use Rattle.numbers.specs.Marks.{same, esn, ecy, eod};
 use crate::text;
 use numbers::marks;
 use numbers::marks::Section;
+use std::io;
 
 // A caller that names a mark has the definition's list.
 fn ends_snapshot(s: &[u8], at: usize) -> bool
@@ -55,16 +56,16 @@ fn which(s: &[u8], at: usize) -> u64
 }
 
 // What stands at every place of a row of marks.
-pub(crate) fn marks(label: &[u8], s: &[u8]) {
-    text::say(label);
-    text::say(b":");
+pub(crate) fn marks(rt: &impl Print, label: &[u8], s: &[u8]) -> io::Result<()> {
+    text::say(rt, label)?;
+    text::say(rt, b":")?;
     let mut at: usize = 0;
     while 4 <= s.len() - at {
-        text::say(b" ");
-        text::decimal(which(s, at));
+        text::say(rt, b" ")?;
+        text::decimal(rt, which(s, at))?;
         at += 1;
     }
-    text::say(b"\n");
+    text::say(rt, b"\n")
 }
 
 // Whether a mark with byte j altered to v is still one.
@@ -92,17 +93,17 @@ fn altered_at(s: &[u8], j: usize) -> u64
 }
 
 // How many of the 256 values of each byte of a mark leave a mark.
-pub(crate) fn altered(label: &[u8], s: &[u8]) {
+pub(crate) fn altered(rt: &impl Print, label: &[u8], s: &[u8]) -> io::Result<()> {
     if s.len() < 4 {
-        return;
+        return Ok(());
     }
-    text::say(label);
-    text::say(b":");
+    text::say(rt, label)?;
+    text::say(rt, b":")?;
     let mut j: usize = 0;
     while j < 4 {
-        text::say(b" ");
-        text::decimal(altered_at(s, j));
+        text::say(rt, b" ")?;
+        text::decimal(rt, altered_at(s, j))?;
         j += 1;
     }
-    text::say(b"\n");
+    text::say(rt, b"\n")
 }

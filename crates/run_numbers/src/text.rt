@@ -1,24 +1,23 @@
 // Words and numbers on standard output.
-use libc::STDOUT_FILENO;
+use std::io;
 
-pub(crate) fn say(words: &[u8]) {
-    io::write_all(STDOUT_FILENO, words);
+pub(crate) fn say(rt: &impl Print, words: &[u8]) -> io::Result<()> {
+    rt.write_all(words)
 }
 
-pub(crate) fn decimal(n: u64) {
-    io::print_decimal(STDOUT_FILENO, n);
+pub(crate) fn decimal(rt: &impl Print, n: u64) -> io::Result<()> {
+    print!(rt; "{n}")
 }
 
 // 64 bits as a number with a sign.
-pub(crate) fn signed(v: u64) {
+pub(crate) fn signed(rt: &impl Print, v: u64) -> io::Result<()> {
     if v < 0x8000_0000_0000_0000 {
-        decimal(v);
-    } else {
-        say(b"-");
-        decimal(0xffff_ffff_ffff_ffff - v + 1);
+        return decimal(rt, v);
     }
+    say(rt, b"-")?;
+    decimal(rt, 0xffff_ffff_ffff_ffff - v + 1)
 }
 
-pub(crate) fn hex(b: u8) {
-    io::print_hex(STDOUT_FILENO, b as u64, 2);
+pub(crate) fn hex(rt: &impl Print, b: u8) -> io::Result<()> {
+    print!(rt; "{b:02x}")
 }

@@ -7,9 +7,10 @@ use crate::frame::{
 use crate::text;
 use answers::Answer;
 use buffer_contents::{all_zero, holds};
+use std::io;
 
 // What came of a case: the answer's number, and whether all was as stored; or that the case asks for more room than there is.
-#[derive(Drop)]
+#[derive(Clone, Copy)]
 pub(crate) enum Found {
     Stored(u64),
     Other(u64),
@@ -111,30 +112,31 @@ fn left(frame: &[u8], events: &[u8], values: &[u8], room: &[u8], list: &[u32]) -
 }
 
 // The line of a case that is not as stored.
-fn tell(at: u64, a: Answer) {
-    text::say(b"case");
-    text::next(at);
-    text::say(b" is not as stored:");
-    text::next(a.number);
-    text::next(a.place);
-    text::next(a.read);
-    text::next(a.events);
-    text::next(a.values);
-    text::next(a.steps);
-    text::say(b"\n");
+fn tell(rt: &impl Print, at: u64, a: Answer) -> io::Result<()> {
+    text::say(rt, b"case")?;
+    text::next(rt, at)?;
+    text::say(rt, b" is not as stored:")?;
+    text::next(rt, a.number)?;
+    text::next(rt, a.place)?;
+    text::next(rt, a.read)?;
+    text::next(rt, a.events)?;
+    text::next(rt, a.values)?;
+    text::next(rt, a.steps)?;
+    text::say(rt, b"\n")
 }
 
-fn judged(at: u64, a: Answer, same: bool) -> Found {
+fn judged(rt: &impl Print, at: u64, a: Answer, same: bool) -> io::Result<Found> {
     let found = a.number;
     if same {
-        return Found::Stored(found);
+        return Ok(Found::Stored(found));
     }
-    tell(at, a);
-    Found::Other(found)
+    tell(rt, at, a)?;
+    Ok(Found::Other(found))
 }
 
 // The call, with rooms of just the lengths that the case states.
 fn held<'a>(
+    rt: &impl Print,
     frame: &'a [u8],
     at: u64,
     words: &'a [u32],
@@ -142,9 +144,10 @@ fn held<'a>(
     values: &mut [u8],
     room: &mut [u8],
     list: &mut [u32],
-) -> Found {
+) -> io::Result<Found> {
     let a = call(frame, words, events, values, room, list);
     judged(
+        rt,
         at,
         a,
         answered(frame, a) & left(frame, events, values, room, list),
@@ -153,6 +156,7 @@ fn held<'a>(
 
 // The same over larger rooms.
 fn with_rooms<'a>(
+    rt: &impl Print,
     frame: &'a [u8],
     at: u64,
     words: &'a [u32],
@@ -160,12 +164,13 @@ fn with_rooms<'a>(
     values: &mut [u8],
     room: &mut [u8],
     list: &mut [u32],
-) -> Found {
+) -> io::Result<Found> {
     let e = least(number(frame, EVENT_ROOM), events.len());
     let v = least(number(frame, VALUE_ROOM), values.len());
     let b = least(number(frame, BYTE_ROOM), room.len());
     let n = least(number(frame, NUMBER_ROOM), list.len());
     held(
+        rt,
         frame,
         at,
         words,
@@ -177,12 +182,13 @@ fn with_rooms<'a>(
 }
 
 // Every lent buffer is full of garbage.
-fn loaded<'a>(frame: &'a [u8], at: u64, words: &'a [u32]) -> Found {
+fn loaded<'a>(rt: &impl Print, frame: &'a [u8], at: u64, words: &'a [u32]) -> io::Result<Found> {
     let mut events = [0xa5u8; 2048];
     let mut values = [0x5au8; 4096];
     let mut room = [0xc3u8; 128];
     let mut list = [0x9669_a55au32; 10];
     with_rooms(
+        rt,
         frame,
         at,
         words,
@@ -202,11 +208,11 @@ fn fits(frame: &[u8]) -> bool {
 }
 
 // No case of the list has more than 140 signals and 10 vectors.
-pub(crate) fn run(frame: &[u8], at: u64) -> Found {
+pub(crate) fn run(rt: &impl Print, frame: &[u8], at: u64) -> io::Result<Found> {
     if !fits(frame) {
-        return Found::Large;
+        return Ok(Found::Large);
     }
     let mut words = [0u32; 310];
     load(frame, &mut words);
-    loaded(frame, at, &words)
+    loaded(rt, frame, at, &words)
 }

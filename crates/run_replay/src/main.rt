@@ -1,4 +1,6 @@
 // Replays a list of stored cases through the entries, and holds every answer and every lent byte to what is stored.
+#![tactic(auto)]
+
 mod case;
 mod frame;
 mod tally;
@@ -6,9 +8,10 @@ mod text;
 
 use buffer_contents::parts::first_bytes;
 use case::Found;
-use libc::STDIN_FILENO;
+use full_reads::read_full;
+use std::io::{self, Read};
 
-#[derive(Drop)]
+#[derive(Clone, Copy)]
 enum Turn {
     More,
     Done,
@@ -16,94 +19,111 @@ enum Turn {
 }
 
 // The length of the next frame; where the input ends, more than any frame has.
-fn next_length() -> usize {
+fn next_length<R: Read>(input: &mut R) -> io::Result<usize> {
     let mut head = [0u8; 2];
-    let got = io::read_full(STDIN_FILENO, &mut head);
+    let got = read_full(input, &mut head)?;
     if got < 2 {
-        return 65536;
+        return Ok(65536);
     }
-    frame::length_of(&head)
+    Ok(frame::length_of(&head))
 }
 
-fn heading(frame: &[u8], counts: &mut [u64]) -> Turn {
-    tally::show(counts);
+fn heading(rt: &impl Print, frame: &[u8], counts: &mut [u64]) -> io::Result<Turn> {
+    tally::show(rt, counts)?;
     tally::clear(counts);
-    text::line(frame::name(frame));
-    Turn::More
+    text::line(rt, frame::name(frame))?;
+    Ok(Turn::More)
 }
 
-fn one_case(frame: &[u8], counts: &mut [u64]) -> Turn {
+fn one_case(rt: &impl Print, frame: &[u8], counts: &mut [u64]) -> io::Result<Turn> {
     let entry = frame::number(frame, frame::ENTRY);
     let at = tally::begin(counts);
-    match case::run(frame, at) {
+    match case::run(rt, frame, at)? {
         Found::Stored(number) => {
             tally::stored(counts, entry, number);
-            Turn::More
+            Ok(Turn::More)
         }
         Found::Other(number) => {
             tally::other(counts, entry, number);
-            Turn::More
+            Ok(Turn::More)
         }
-        Found::Large => Turn::Bad,
+        Found::Large => Ok(Turn::Bad),
     }
 }
 
-fn one_frame(frame: &[u8], counts: &mut [u64]) -> Turn {
+fn one_frame(rt: &impl Print, frame: &[u8], counts: &mut [u64]) -> io::Result<Turn> {
     if frame.len() < 2 {
-        return Turn::Bad;
+        return Ok(Turn::Bad);
     }
     if frame::number(frame, frame::ENTRY) == 0 {
-        return heading(frame, counts);
+        return heading(rt, frame, counts);
     }
     if frame::is_case(frame) {
-        return one_case(frame, counts);
+        return one_case(rt, frame, counts);
     }
-    Turn::Bad
+    Ok(Turn::Bad)
 }
 
 // Whether the input has so many bytes more, now at the front of `frame`.
-fn fill(frame: &mut [u8], n: usize) -> bool {
+fn fill<R: Read>(input: &mut R, frame: &mut [u8], n: usize) -> io::Result<bool> {
     if frame.len() < n {
-        return false;
+        return Ok(false);
     }
-    io::read_full(STDIN_FILENO, &mut frame[..n]) == n
+    let got = read_full(input, &mut frame[..n])?;
+    Ok(got == n)
 }
 
-fn next_frame(frame: &mut [u8], counts: &mut [u64]) -> Turn {
-    let n = next_length();
+fn next_frame<R: Read>(
+    rt: &impl Print,
+    input: &mut R,
+    frame: &mut [u8],
+    counts: &mut [u64],
+) -> io::Result<Turn> {
+    let n = next_length(input)?;
     if n == 0 {
-        return Turn::Done;
+        return Ok(Turn::Done);
     }
-    if fill(frame, n) {
-        return one_frame(first_bytes(frame, n), counts);
+    if fill(input, frame, n)? {
+        return one_frame(rt, first_bytes(frame, n), counts);
     }
-    Turn::Bad
+    Ok(Turn::Bad)
 }
 
 // Whether the list came to its end, an empty frame, within so many frames.
-fn replay(frame: &mut [u8], counts: &mut [u64]) -> bool {
+fn replay<R: Read>(
+    rt: &impl Print,
+    input: &mut R,
+    frame: &mut [u8],
+    counts: &mut [u64],
+) -> io::Result<bool> {
     let mut left: usize = 65536;
     while 0 < left {
-        match next_frame(frame, counts) {
+        match next_frame(rt, input, frame, counts)? {
             Turn::More => {}
-            Turn::Done => return true,
-            Turn::Bad => return false,
+            Turn::Done => return Ok(true),
+            Turn::Bad => return Ok(false),
         }
         left -= 1;
     }
-    false
+    Ok(false)
 }
 
-fn replay_all(frame: &mut [u8], counts: &mut [u64]) {
-    let whole = replay(frame, counts);
-    tally::show(counts);
+fn replay_all<R: Read>(
+    rt: &impl Print,
+    input: &mut R,
+    frame: &mut [u8],
+    counts: &mut [u64],
+) -> io::Result<()> {
+    let whole = replay(rt, input, frame, counts)?;
+    tally::show(rt, counts)?;
     if !whole {
-        text::line(b"bad list");
+        text::line(rt, b"bad list")?;
     }
+    Ok(())
 }
 
-fn main() {
+fn main(rt: HostRuntime) -> io::Result<()> {
     let mut frame = [0u8; 10240];
     let mut counts = [0u64; 88];
-    replay_all(&mut frame, &mut counts);
+    replay_all(&rt, &mut rt.reader(), &mut frame, &mut counts)
 }

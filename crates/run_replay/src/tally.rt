@@ -3,6 +3,7 @@
 ghost use Rattle.std.specs.Prelude.{◌≤◌};
 
 use crate::text;
+use std::io;
 
 const CASES: usize = 0;
 
@@ -68,62 +69,68 @@ pub(crate) fn clear(counts: &mut [u64]) {
     }
 }
 
-fn say_answer(row: usize) {
+fn say_answer(rt: &impl Print, row: usize) -> io::Result<()> {
     if row == 0 {
-        text::say(b"accepted:");
-        return;
+        return text::say(rt, b"accepted:");
     }
     if row == 21 {
-        text::say(b"other numbers:");
-        return;
+        return text::say(rt, b"other numbers:");
     }
-    text::say(b"refused");
-    text::next(row as u64);
-    text::say(b":");
+    text::say(rt, b"refused")?;
+    text::next(rt, row as u64)?;
+    text::say(rt, b":")
 }
 
 // The cases of one answer: of sections, changes and the time rule.
-fn show_row(row: usize, sections: u64, changes: u64, events: u64) {
+fn show_row(
+    rt: &impl Print,
+    row: usize,
+    sections: u64,
+    changes: u64,
+    events: u64,
+) -> io::Result<()> {
     if sections == 0 {
         if changes == 0 {
             if events == 0 {
-                return;
+                return Ok(());
             }
         }
     }
-    say_answer(row);
-    text::say(b" sections");
-    text::next(sections);
-    text::say(b", changes");
-    text::next(changes);
-    text::say(b", time rule");
-    text::next(events);
-    text::say(b"\n");
+    say_answer(rt, row)?;
+    text::say(rt, b" sections")?;
+    text::next(rt, sections)?;
+    text::say(rt, b", changes")?;
+    text::next(rt, changes)?;
+    text::say(rt, b", time rule")?;
+    text::next(rt, events)?;
+    text::say(rt, b"\n")
 }
 
-fn show_rows(counts: &[u64]) {
+fn show_rows(rt: &impl Print, counts: &[u64]) -> io::Result<()> {
     let mut row: usize = 0;
     while row < 22 {
         show_row(
+            rt,
             row,
             get(counts, place(1, row)),
             get(counts, place(2, row)),
             get(counts, place(3, row)),
-        );
+        )?;
         row += 1;
     }
+    Ok(())
 }
 
 // What is known of a list; nothing of one without cases.
-pub(crate) fn show(counts: &[u64]) {
+pub(crate) fn show(rt: &impl Print, counts: &[u64]) -> io::Result<()> {
     if get(counts, CASES) == 0 {
-        return;
+        return Ok(());
     }
-    show_rows(counts);
-    text::decimal(get(counts, CASES));
-    text::say(b" cases:");
-    text::next(get(counts, STORED));
-    text::say(b" as stored,");
-    text::next(get(counts, OTHERS));
-    text::say(b" not\n");
+    show_rows(rt, counts)?;
+    text::decimal(rt, get(counts, CASES))?;
+    text::say(rt, b" cases:")?;
+    text::next(rt, get(counts, STORED))?;
+    text::say(rt, b" as stored,")?;
+    text::next(rt, get(counts, OTHERS))?;
+    text::say(rt, b" not\n")
 }

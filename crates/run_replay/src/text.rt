@@ -1,21 +1,20 @@
 // What the program prints.
-use libc::STDOUT_FILENO;
+use std::io;
 
-pub(crate) fn say(words: &[u8]) {
-    io::write_all(STDOUT_FILENO, words);
+pub(crate) fn say(rt: &impl Print, words: &[u8]) -> io::Result<()> {
+    rt.write_all(words)
 }
 
-pub(crate) fn decimal(n: u64) {
-    io::print_decimal(STDOUT_FILENO, n);
+pub(crate) fn decimal(rt: &impl Print, n: u64) -> io::Result<()> {
+    print!(rt; "{n}")
 }
 
-pub(crate) fn line(words: &[u8]) {
-    say(words);
-    say(b"\n");
+pub(crate) fn line(rt: &impl Print, words: &[u8]) -> io::Result<()> {
+    say(rt, words)?;
+    say(rt, b"\n")
 }
 
 // A number after a space.
-pub(crate) fn next(n: u64) {
-    say(b" ");
-    decimal(n);
+pub(crate) fn next(rt: &impl Print, n: u64) -> io::Result<()> {
+    print!(rt; " {n}")
 }

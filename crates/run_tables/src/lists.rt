@@ -3,7 +3,7 @@
 use buffer_contents::parts::{first_bytes, first_numbers, rest, rest_numbers};
 use cases::{before, number, part};
 
-#[derive(Drop)]
+#[derive(Clone, Copy)]
 struct Run {
     first: u32,
     many: usize,
@@ -71,12 +71,12 @@ fn put_run(run: Run, k: usize, at: usize, bytes: &mut [u8], words: &mut [u32]) {
     let mut same: u32 = 0;
     while 0 < left {
         put(k, i, x, bytes, words);
-        same = std::num::wrapping_add_u32(same, 1);
+        same = same.wrapping_add(1);
         if same == run.every {
             same = 0;
-            x = std::num::wrapping_add_u32(x, run.more);
+            x = x.wrapping_add(run.more);
         }
-        i = std::num::wrapping_add_usize(i, 1);
+        i = i.wrapping_add(1);
         left -= 1;
     }
 }
@@ -91,7 +91,7 @@ fn fill_list(list: &[u8], k: usize, bytes: &mut [u8], words: &mut [u32]) {
         }
         let run = read_run(text);
         put_run(run, k, at, bytes, words);
-        at = std::num::wrapping_add_usize(at, length(run));
+        at = at.wrapping_add(length(run));
         j += 1;
     }
 }
@@ -114,7 +114,7 @@ fn size(list: &[u8]) -> usize {
         if text.len() == 0 {
             return n;
         }
-        n = std::num::wrapping_add_usize(n, length(read_run(text)));
+        n = n.wrapping_add(length(read_run(text)));
         j += 1;
     }
     n

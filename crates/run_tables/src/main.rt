@@ -1,13 +1,16 @@
 // Runs the checks on stored tables of every kind and at the limits, and prints the two numbers of each answer. A line of standard input is a case, of
 // nine parts with `|` between them: its label, the seven lists, and the lengths of the five lent buffers. `#` begins a remark.
+#![tactic(auto)]
+
 mod lists;
 mod text;
 
 use buffer_contents::byte_or_zero;
 use buffer_contents::parts::rest;
 use cases::{after, before, number, part};
-use libc::STDIN_FILENO;
+use full_reads::read_full;
 use lists::{bytes_of, fill, numbers_of};
+use std::io;
 use text::show;
 
 // The length of a lent buffer.
@@ -15,8 +18,9 @@ fn lent(line: &[u8], k: usize) -> usize {
     number(part(part(line, b'|', 8), b' ', k)) as usize
 }
 
-fn checked(line: &[u8], bytes: &[u8], words: &[u32]) {
+fn checked(rt: &impl Print, line: &[u8], bytes: &[u8], words: &[u32]) -> io::Result<()> {
     show(
+        rt,
         part(line, b'|', 0),
         checks::checks(
             bytes_of(bytes, 0, part(line, b'|', 1)),
@@ -32,38 +36,39 @@ fn checked(line: &[u8], bytes: &[u8], words: &[u32]) {
             lent(line, 3),
             lent(line, 4),
         ),
-    );
+    )
 }
 
-fn one(line: &[u8], bytes: &mut [u8], words: &mut [u32]) {
+fn one(rt: &impl Print, line: &[u8], bytes: &mut [u8], words: &mut [u32]) -> io::Result<()> {
     if byte_or_zero(line, 0) == b'#' {
-        return;
+        return Ok(());
     }
     fill(line, bytes, words);
-    checked(line, bytes, words);
+    checked(rt, line, bytes, words)
 }
 
-fn all(text: &[u8], bytes: &mut [u8], words: &mut [u32]) {
+fn all(rt: &impl Print, text: &[u8], bytes: &mut [u8], words: &mut [u32]) -> io::Result<()> {
     let mut at: usize = 0;
     let mut left: usize = text.len();
     while 0 < left {
         if text.len() <= at {
-            return;
+            return Ok(());
         }
-        one(before(rest(text, at), b'\n'), bytes, words);
+        one(rt, before(rest(text, at), b'\n'), bytes, words)?;
         at = after(text, b'\n', at);
         left -= 1;
     }
+    Ok(())
 }
 
-fn run(bytes: &mut [u8], words: &mut [u32]) {
-    let mut text = io::large_buffer();
-    let n = io::read_full(STDIN_FILENO, &mut text);
-    all(&text[..n], bytes, words);
+fn run(rt: &(impl Input + Print), bytes: &mut [u8], words: &mut [u32]) -> io::Result<()> {
+    let mut text = [0u8; 65536];
+    let n = read_full(&mut rt.reader(), &mut text)?;
+    all(rt, &text[..n], bytes, words)
 }
 
-fn main() {
+fn main(rt: HostRuntime) -> io::Result<()> {
     let mut bytes = [0u8; 81920];
     let mut words = [0u32; 180224];
-    run(&mut bytes, &mut words);
+    run(&rt, &mut bytes, &mut words)
 }

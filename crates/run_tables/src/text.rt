@@ -1,20 +1,16 @@
 // What the program prints.
-use libc::STDOUT_FILENO;
+use std::io;
 use tables::Check;
 
-fn line(label: &[u8], number: u64, place: u64) {
-    io::write_all(STDOUT_FILENO, label);
-    io::write_all(STDOUT_FILENO, b": ");
-    io::print_decimal(STDOUT_FILENO, number);
-    io::write_all(STDOUT_FILENO, b" ");
-    io::print_decimal(STDOUT_FILENO, place);
-    io::write_all(STDOUT_FILENO, b"\n");
+fn line(rt: &impl Print, label: &[u8], number: u64, place: u64) -> io::Result<()> {
+    rt.write_all(label)?;
+    println!(rt; ": {number} {place}")
 }
 
 // An answer: 0 0 where the checks passed.
-pub(crate) fn show(label: &[u8], answer: Check) {
+pub(crate) fn show(rt: &impl Print, label: &[u8], answer: Check) -> io::Result<()> {
     match answer {
-        Check::Passed => line(label, 0, 0),
-        Check::Refused(number, place) => line(label, number, place),
+        Check::Passed => line(rt, label, 0, 0),
+        Check::Refused(number, place) => line(rt, label, number, place),
     }
 }

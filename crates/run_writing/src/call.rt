@@ -1,6 +1,7 @@
 // One call, with an output full of garbage.
 use crate::text::show;
 use answers::Answer;
+use std::io;
 
 pub(crate) fn call(
     back: bool,
@@ -26,6 +27,7 @@ pub(crate) fn call(
 }
 
 fn shown(
+    rt: &impl Print,
     label: &[u8],
     back: bool,
     kinds: &[u8],
@@ -39,19 +41,20 @@ fn shown(
     input: &[u8],
     out: &mut [u8],
     room: usize,
-) {
+) -> io::Result<()> {
     if out.len() < room {
-        return;
+        return Ok(());
     }
     let part = &mut out[..room];
     let a = call(
         back, kinds, refs, vecs, mins, maxs, states, vec_refs, big_endian, input, part,
     );
-    show(label, a, part);
+    show(rt, label, a, part)
 }
 
 // With so much room.
 pub(crate) fn within(
+    rt: &impl Print,
     label: &[u8],
     back: bool,
     kinds: &[u8],
@@ -64,10 +67,10 @@ pub(crate) fn within(
     big_endian: bool,
     input: &[u8],
     room: usize,
-) {
+) -> io::Result<()> {
     let mut out = [0xa5u8; 128];
     shown(
-        label, back, kinds, refs, vecs, mins, maxs, states, vec_refs, big_endian, input, &mut out,
-        room,
-    );
+        rt, label, back, kinds, refs, vecs, mins, maxs, states, vec_refs, big_endian, input,
+        &mut out, room,
+    )
 }

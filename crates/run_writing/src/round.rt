@@ -4,6 +4,7 @@ use crate::text::{line, show};
 use answers::Answer;
 use buffer_contents::holds;
 use buffer_contents::parts::first_bytes;
+use std::io;
 
 fn sections<'a>(
     kinds: &'a [u8],
@@ -151,15 +152,14 @@ fn same_events<'a>(
     same_answer(a, b) & holds(&events, &other_events) & holds(&values, &other_values)
 }
 
-fn told(a: Answer, good: bool) {
+fn told(rt: &impl Print, a: Answer, good: bool) -> io::Result<()> {
     if a.number != 0 {
-        return;
+        return Ok(());
     }
     if good {
-        line(b"  comes back, with the same events");
-        return;
+        return line(rt, b"  comes back, with the same events");
     }
-    line(b"  DOES NOT come back with the same events");
+    line(rt, b"  DOES NOT come back with the same events")
 }
 
 fn length_of(a: Answer) -> usize {
@@ -167,6 +167,7 @@ fn length_of(a: Answer) -> usize {
 }
 
 fn written<'a>(
+    rt: &impl Print,
     label: &[u8],
     kinds: &'a [u8],
     refs: &'a [u32],
@@ -177,24 +178,26 @@ fn written<'a>(
     vec_refs: &'a [u32],
     big_endian: bool,
     s: &[u8],
-) {
+) -> io::Result<()> {
     let mut out = [0xa5u8; 2048];
     let a = call(
         false, kinds, refs, vecs, mins, maxs, states, vec_refs, big_endian, s, &mut out,
     );
-    show(label, a, &out);
+    show(rt, label, a, &out)?;
     let w = first_bytes(&out, length_of(a));
     told(
+        rt,
         a,
         back_again(
             kinds, refs, vecs, mins, maxs, states, vec_refs, big_endian, s, w,
         ) & same_events(
             kinds, refs, vecs, mins, maxs, states, vec_refs, big_endian, s, w,
         ),
-    );
+    )
 }
 
 pub(crate) fn both<'a>(
+    rt: &impl Print,
     kinds: &'a [u8],
     refs: &'a [u32],
     vecs: &'a [u32],
@@ -203,11 +206,11 @@ pub(crate) fn both<'a>(
     states: &'a [u8],
     vec_refs: &'a [u32],
     s: &[u8],
-) {
+) -> io::Result<()> {
     written(
-        b"little", kinds, refs, vecs, mins, maxs, states, vec_refs, false, s,
-    );
+        rt, b"little", kinds, refs, vecs, mins, maxs, states, vec_refs, false, s,
+    )?;
     written(
-        b"big", kinds, refs, vecs, mins, maxs, states, vec_refs, true, s,
-    );
+        rt, b"big", kinds, refs, vecs, mins, maxs, states, vec_refs, true, s,
+    )
 }

@@ -20,7 +20,7 @@ use Rattle.records.specs.declared.Record.TheVariants.{Time, Value, Real}
 use Rattle.event_streams.specs.declared.Next.{Next}
 use Rattle.event_streams.specs.declared.Next.TheVariants.{Event, End, Bad}
 use Rattle.event_streams.specs.Stream.{next_event, in_values}
-use Rattle.event_streams.specs.Stream.Laws.{found_event, past_end}
+use Rattle.event_streams.proofs.Stream.Laws.{found_event, past_end}
 use Rattle.listing_text.specs.declared.lines.Progress.{Progress}
 use Rattle.listing_text.specs.declared.lines.Turn.{Turn}
 use Rattle.listing_text.specs.declared.lines.Turn.TheVariants.{More, Over}

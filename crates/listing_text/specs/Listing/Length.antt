@@ -25,7 +25,7 @@ use Rattle.event_streams.specs.declared.Next.TheVariants as next
 use Rattle.records.specs.Event.{Event, time, value, real, kind_of, record_of, record_bytes, event_value}
 use Rattle.records.specs.Event.Laws.{length_time, length_value, length_real}
 use Rattle.event_streams.specs.Stream.{event_length, record_at, next_event}
-use Rattle.event_streams.specs.Stream.Laws.{Stands, found_event}
+use Rattle.event_streams.proofs.Stream.Laws.{Stands, found_event}
 use Rattle.gather.specs.Run.Rendered.{rendered, values_of}
 use Rattle.section_scan.specs.Sections.{scan_sections}
 use Rattle.answers.specs.Outcome.{Left}

@@ -1,0 +1,9 @@
+-- What is left to do grows less.
+use Rattle.std.proofs.Common.{◌≤◌, length}
+use Rattle.run_listings.proofs.all.Given as goal
+
+abbrev pub invariant-loop-left : goal.invariant-loop-left
+invariant-loop-left g l = l.left ≤ length l.text
+
+abbrev pub decreases-loop-left : goal.decreases-loop-left
+decreases-loop-left g l = l.left

@@ -1,0 +1,9 @@
+-- What is left to do grows less.
+use Rattle.std.proofs.Common.{◌≤◌, length, ◌-◌}
+use Rattle.run_numbers.proofs.marked.marks.Given as goal
+
+abbrev pub invariant-loop-at : goal.invariant-loop-at
+invariant-loop-at g l = l.at ≤ length l.s
+
+abbrev pub decreases-loop-at : goal.decreases-loop-at
+decreases-loop-at g l = length l.s - l.at
