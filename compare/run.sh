@@ -2,7 +2,7 @@
 # A short comparison, a minute or two: the plain reading of document 01, the crate's own code and, where its archive can be
 # made, the port. Ends with 0 and a plain message where its needs can't be met, and with 1 on a difference.
 #   WELLEN_SRC  the crate's source folder (default: ../shared/docs/src beside the repository)
-#   PORT        the archive to link, and the others beside it (default: made by `rt staticlib`, or target/staticlib/libdoorquill.a); none: without it
+#   PORT        the archive to link, and the others beside it (default: made by tools/archives, or target/staticlib/libdoorquill.a); none: without it
 #   SAMPLES     real files (default: ../shared/samples beside the repository), left out where they're missing
 #   LIST        the fixed list, to be put to every side again (default: left out)
 #   SEED, SECTIONS, CHANGES, EVENTS, STREAMS, INPUTS, REQUESTS   what `compare run`, `compare written`, `compare dropin` and `compare requests` take
@@ -68,7 +68,7 @@ esac
 archive=$root/target/staticlib/libdoorquill.a
 if [ -z "${PORT:-}" ]; then
     if command -v rt > /dev/null && [ -d "$root/crates/doorquill" ]; then
-        (cd "$root" && for name in doorquill doorquill_changes doorquill_back bench; do rt staticlib $name || exit 1; done) > "$OUT/staticlib.log" 2>&1 || {
+        "$root/tools/archives" > "$OUT/staticlib.log" 2>&1 || {
             echo "compare: the archives of the port were not made:"
             tail -n 20 "$OUT/staticlib.log"
             exit 1

@@ -1,6 +1,6 @@
 #!/bin/sh
 # The tests of the host: the safe crate, the header, the examples, the command. Ends with 0 and a plain message where its needs can't be met, and with 1 on a failure.
-#   DOORQUILL_LIB   the folder with the proved archives (default: made by `rt staticlib`, or target/staticlib)
+#   DOORQUILL_LIB   the folder with the proved archives (default: made by tools/archives, or target/staticlib)
 #   OUT             where cargo builds (default: target/rust)
 # On x86-64 a cargo and a rustc from 1.63 on will do. On Arm everything is built for x86-64 by Debian's packages and run by an emulator.
 # Whatever is given to this script is handed on to `cargo test`.

@@ -32,7 +32,7 @@ fn main() {
             Some((path, _)) if linked.contains(&path.as_path()) => {}
             Some((path, _)) => linked.push(path),
             None => wrong(&format!(
-                "no archive in {} has {call}: name their folder by DOORQUILL_LIB, or make it by `rt staticlib {crate_name}` at the repository's top",
+                "no archive in {} has {call}: name their folder by DOORQUILL_LIB, or make it by `tools/archives {crate_name}` at the repository's top",
                 folder.display()
             )),
         }
