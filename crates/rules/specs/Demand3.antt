@@ -1,4 +1,4 @@
--- Demand 3, sentence by sentence, of everything that the gatherer does with whole steps over good tables, and its proof: each sentence a citation.
+-- Demand 3, sentence by sentence, of everything that the gatherer does with whole steps over good tables.
 -- `history_of early t acts v` is vector v's part of `happens early t (begin t) acts`: its events are those labelled with v.
 -- An event owns a write where it is the first event after it: `Waits x a` says that no event follows the write x in `a`.
 -- Assumes nothing.

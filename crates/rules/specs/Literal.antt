@@ -1,4 +1,4 @@
--- Demand 3 sentence by sentence, of one vector's history `h`, read off `Owned`.
+-- Why an event was made, of one vector's history.
 -- An event owns a write where it is the first event after it: `Waits x a` says that no event followed the write x in `a`.
 -- Assumes nothing.
 use Rattle.std.specs.Prelude.{◌≡◌, ◌≢◌, Bool, ℕ, ◌<◌, T}

@@ -1,4 +1,4 @@
--- What section files can never do, since ids rise within a list: an event by rule (a), or two events of a vector in one step.
+-- Inputs whose ids rise within a list, and what such a vector's history is: no event by rule (a), and at most one in a step.
 -- Assumes nothing.
 use Rattle.std.specs.Prelude.{◌≡◌, Bool, List, [], ◌∷◌, ◌≢◌, ℕ, ◌-◌, ◌<◌}
 use Rattle.std.proofs.Math.Bool.{true, false}

@@ -1,4 +1,4 @@
--- What the order of writes to different vectors within steps can't change: each vector's own times and values.
+-- Inputs that differ in the order of writes to different vectors within steps, and what each vector shows: its own times and values.
 -- Assumes nothing.
 use Rattle.std.specs.Prelude.{List, [], ◌∷◌, ◌≢◌, ℕ}
 use Rattle.rules.specs.Vector.{Item, began, wrote, shown, over}

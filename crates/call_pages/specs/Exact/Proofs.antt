@@ -1,4 +1,4 @@
--- A call that fills its room with its course has just this page, and no other answer meets it.
+-- How a call ends that fills its room with its course.
 -- Assumes nothing.
 use Rattle.std.specs.Prelude.{ℕ, ◌-◌}
 use mathlib.Core.List.{[]}

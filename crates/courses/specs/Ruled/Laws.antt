@@ -1,4 +1,4 @@
--- The time rule fills its room with its course; where the course ends the records alone say.
+-- How the time rule ends, as the other calls with one output end.
 -- Assumes nothing.
 use Prim.Native.Nat.{◌-◌}
 use Rattle.number_writer.specs.Ended.{Ended}

@@ -1,4 +1,4 @@
--- What the proofs of the functions below `next_event` search.
+-- A record of a known kind at a place of a stream.
 -- Assumes nothing.
 use Rattle.std.specs.Prelude.{◌≡◌, ℕ, ◌+◌, ◌-◌, ◌≤◌, ◌<◌, List, length, get_or}
 use Rattle.std.proofs.Common.{arith}

@@ -1,4 +1,4 @@
--- No act is dropped or made up: without the vectors' events, what happens is what the input says, act for act.
+-- What the input says, act for act, among what happens, and what happens without the vectors' events.
 -- Assumes nothing.
 use Rattle.std.specs.Prelude.{List, [], ◌∷◌, ℕ, zero, suc}
 use Rattle.rules.specs.Vector.{began, wrote, shown, over, act}

@@ -1,4 +1,4 @@
--- Laws of the gatherer's parts: one vector replaced, the list of written vectors, the step's end; and what holds of every state that it reaches.
+-- No number twice in a list, what holds of every state that the gatherer reaches, and the state after some acts.
 -- Assumes nothing.
 use Rattle.std.specs.Prelude.{◌≡◌, Bool, true, false, List, [], ◌∷◌, ℕ}
 use Rattle.rules.specs.Vector.{any}

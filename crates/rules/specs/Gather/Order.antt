@@ -1,4 +1,4 @@
--- The step's end: each vector with marks makes one event, in the order of the vectors' first writes in the step.
+-- The step's end in words: the vectors with marks, their events, and the order of the vectors' first writes in the step.
 -- Assumes nothing.
 use Rattle.std.specs.Prelude.{Bool, cond, ℕ, zero, suc}
 use mathlib.Core.List.{List, [], ◌∷◌, ◌++◌, map}

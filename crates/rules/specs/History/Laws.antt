@@ -1,4 +1,4 @@
--- Laws of places in a history.
+-- Places in a history: its first event, and a write that waits for one.
 -- Assumes nothing.
 use Rattle.std.specs.Prelude.{◌≡◌, ℕ}
 use mathlib.Core.List.{List, ◌∷◌, ◌++◌}

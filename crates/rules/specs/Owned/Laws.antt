@@ -1,4 +1,4 @@
--- Every history of one vector meets demand 3, and what demand 3 says of a place in a history.
+-- What demand 3 says of a place in a history: an event comes first.
 -- Assumes nothing.
 use Rattle.std.specs.Prelude.{◌≡◌, ℕ}
 use mathlib.Core.List.{List, ◌∷◌, ◌++◌}

@@ -1,4 +1,4 @@
--- Histories that demand 3 refuses, one for each way to go wrong. The vector has two bits, but where the width matters.
+-- What histories that demand 3 refuses are said with.
 -- Assumes nothing.
 use Rattle.std.specs.Prelude.{◌≡◌, Bool, ℕ, replicate}
 use mathlib.Core.List.{List, [], ◌∷◌}

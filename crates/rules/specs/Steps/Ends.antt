@@ -1,4 +1,4 @@
--- The end of each of the steps of whole steps: which vectors make an event there, in what order.
+-- A step of whole steps.
 -- Assumes nothing.
 use Rattle.std.specs.Prelude.{◌≡◌, List, ◌∷◌, ◌++◌, ℕ}
 use Rattle.rules.specs.Gather.{Act, time, step_end}

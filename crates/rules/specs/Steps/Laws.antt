@@ -1,10 +1,10 @@
--- Laws of steps.
+-- Whole steps in words: the first of them, their end, and the end of each.
 -- Assumes nothing.
 use Rattle.std.specs.Prelude.{ℕ, ◌≡◌, Bool, List, [], ◌∷◌, ◌++◌}
 use Rattle.rules.specs.Gather.{Act, time, step_end}
 use Rattle.rules.specs.Steps.{Steps, Stepped, Writes}
 
--- .. and every list of whole steps is made so
+-- they begin with a step, and whole steps follow
 abbrev pub StepFirst : List Act → Type 0
 StepFirst acts = (u : ℕ) × (ws : List Act) × (rest : List Act) × (acts ≡ time u ∷ (ws ++ step_end ∷ rest)) × Writes ws × Stepped rest
 

@@ -1,4 +1,4 @@
--- Whole steps: each vector's history meets demand 3, and a vector has marks exactly where a write waits for its event.
+-- A vector's history of some acts.
 -- Assumes nothing.
 use Rattle.std.specs.Prelude.{Bool, List, ℕ}
 use Rattle.rules.specs.Vector.{Item}

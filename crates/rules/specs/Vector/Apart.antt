@@ -1,4 +1,4 @@
--- The two early rules never act in one write: (a) leaves one mark, and where that is every bit, (c) had acted before.
+-- Where rule (c) can act: some bit is unmarked.
 -- Assumes nothing.
 use Rattle.std.specs.Prelude.{◌≡◌, ◌&&◌}
 use Rattle.std.proofs.Math.Bool.{Bool, false}

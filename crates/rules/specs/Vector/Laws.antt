@@ -1,4 +1,4 @@
--- Laws of one vector: its marks, its events, and what an operation does in each of its branches.
+-- A vector of a width, and the vector after some operations.
 -- Assumes nothing.
 use Rattle.std.specs.Prelude.{◌≡◌, Bool, List, [], ◌∷◌, ℕ, length}
 use Rattle.rules.specs.Vector.{Op, Vec, act}
