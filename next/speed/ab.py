@@ -1,11 +1,11 @@
 # ab.py ROUNDS ROWS NAME..: compare bench 1-row runs alternating; min and median of port ms, crate min, ratio of mins, median of ratios
-import sys,re,subprocess,statistics
+import os,sys,re,subprocess,statistics
 rounds=int(sys.argv[1]); rows=sys.argv[2].split(','); names=sys.argv[3:]
 for r in rows:
     P={n:[] for n in names}; C=[]; R={n:[] for n in names}
     for k in range(rounds):
         for n in names:
-            o=subprocess.run(['/work/scratch-speed/o/%s/compare'%n,'bench','5',r],capture_output=True,text=True).stdout
+            o=subprocess.run(['%s/o/%s/compare'%(os.environ['SCRATCH'],n),'bench','5',r],capture_output=True,text=True).stdout
             m=re.search(r'crate ([\d.]+)',o.split('\n',2)[2]); q=re.search(r'port  ([\d.]+)',o)
             if not q: print(n,o); continue
             if 'differs' in o: print('DIFFERS',n,r)

@@ -1,7 +1,7 @@
 #!/bin/bash
 # arch.sh NAME [ONE]: unproved archive of x/NAME -> o/NAME/libdoorquill.a (three objects; with ONE a single object)
 set -e
-W=/work/scratch-speed; name=$1; out=$W/o/$name; mkdir -p $out; cd $W/x/$name
+W=${SCRATCH:?a folder to work in}; name=$1; out=$W/o/$name; mkdir -p $out; cd $W/x/$name
 L=$(python3 - <<'P'
 d={}
 for l in open('crates.txt'):
@@ -17,8 +17,8 @@ print(' '.join('--lib %s=crates/%s/src/lib.rt'%(n,n) for n in seen))
 P
 )
 rm -f $W/kept/*
-/opt/rattle/on/x86_64/bin/rattle-cases --toolchain $W/tc $W/prog/src/main.rt --crate-name speed --lib std=/opt/rattle/libs/std/src/lib.rt $L > $out/cases.log 2>&1 || { grep -v '^ok' $out/cases.log | head -20; [ -f $W/kept/module.001.bc ] || exit 1; }
-C=/opt/rattle/on/x86_64/toolchain/bin/clang
+${KIT:?}/on/x86_64/bin/rattle-cases --toolchain $W/tc $W/prog/src/main.rt --crate-name speed --lib std=$KIT/libs/std/src/lib.rt $L > $out/cases.log 2>&1 || { grep -v '^ok' $out/cases.log | head -20; [ -f $W/kept/module.001.bc ] || exit 1; }
+C=${KIT:?}/on/x86_64/toolchain/bin/clang
 $C --target=x86_64-unknown-linux-gnu --no-default-config -S -emit-llvm -x ir $W/kept/module.001.bc -o $out/m.ll -O0 -Xclang -disable-llvm-passes
 rm -f $out/*.o $out/libdoorquill.a
 one() { # PART calls

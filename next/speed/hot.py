@@ -1,8 +1,8 @@
 # hot.py NAME ROW: disassembly of dqi_read_sections with executions per write
-import sys,re,subprocess
+import os,sys,re,subprocess
 n,row=sys.argv[1:3]
-W='/work/scratch-speed'
-out='/tmp/cg.%s.%s'%(n,row)
+W=os.environ['SCRATCH']
+out='%s/cg.%s.%s'%(W,n,row)
 exe='%s/o/%s/compare'%(W,n)
 p=subprocess.run(['valgrind','--tool=callgrind','--dump-instr=yes','--callgrind-out-file='+out,'--toggle-collect=doorquill_read_sections',exe,'bench','1',row],capture_output=True,text=True)
 w=int(re.search(r'(\d+) writes',p.stdout).group(1))
@@ -46,7 +46,7 @@ for f,a,t in res:
 s=sum(cost.values())
 print('total/write %.1f  base %x'%(s/w,base))
 for f,c in tot.most_common(8): print('  %8.1f %s'%(c/w,f))
-with open('/tmp/hot.%s.%s'%(n,row),'w') as o:
+with open('%s/hot.%s.%s'%(W,n,row),'w') as o:
     for f,a,t in res:
         c=cost.get(a+base,0)
         if f in ('dqi_read_sections','records::append_event','leb128::nine') or (c and 'wellen' not in f): o.write('%8.3f %6x %s\n'%(c/w,a,t))
