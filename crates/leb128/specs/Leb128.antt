@@ -4,8 +4,7 @@ use Rattle.std.specs.Prelude.{ℕ, suc, ◌+◌, ◌-◌, ◌*◌, ◌%◌, ◌^
 use Rattle.std.proofs.Math.IntN.{sub_ℕ}
 use Rattle.std.proofs.Common.{of_z}
 use Rattle.std.specs.Int.{w64}
-use Rattle.leb128.specs.declared.Leb.{Leb}
-use Rattle.leb128.specs.declared.Leb.TheVariants.{Value, Short, Large}
+use Rattle.leb128.specs.Leb.{Leb, Value, Short, Large}
 pub mod Nine
 pub mod Laws
 pub mod Code

@@ -1,2 +1,3 @@
+pub mod Leb
 pub mod Leb128
 pub mod Shortest

@@ -6,11 +6,9 @@ ghost use Rattle.leb128.specs.Leb128.{read_unsigned, read_signed};
 ghost use Rattle.leb128.specs.Leb128.Nine.{signed_end};
 ghost use Rattle.leb128.specs.Leb128.Nine.{Nine};
 
-// What reading a number finds.
-#[derive(Clone, Copy)]
-pub enum Leb {
-    // The number, and the place after it.
-    Value(u64, usize),
+// Why there is no number.
+#[derive(Clone, Copy, PartialEq, Eq, Debug)]
+pub enum LebError {
     // The input ends inside it.
     Short,
     // It does not fit 64 bits, or has more than ten bytes.
@@ -32,11 +30,9 @@ enum Run {
         sum: u64,
         tenth: usize,
     },
-    // The input ends inside it.
-    Short,
 }
 
-fn nine(s: &[u8], at: usize) -> Run
+fn nine(s: &[u8], at: usize) -> Result<Run, LebError>
     ensures { Nine s.now at result }
 {
     let mut sum: u64 = 0;
@@ -45,79 +41,74 @@ fn nine(s: &[u8], at: usize) -> Run
     let mut k: usize = 0;
     while k < 9 {
         if s.len() <= i {
-            return Run::Short;
+            return Err(LebError::Short);
         }
         let b = s[i];
         sum += (b % 128) as u64 * power;
         power *= 128;
         i += 1;
         if b < 128 {
-            return Run::Ended {
+            return Ok(Run::Ended {
                 sum,
                 power,
                 last: b,
                 next: i,
-            };
+            });
         }
         k += 1;
     }
-    Run::Open { sum, tenth: i }
+    Ok(Run::Open { sum, tenth: i })
 }
 
-pub fn unsigned(s: &[u8], at: usize) -> Leb
+// A number and the place after it.
+pub fn unsigned(s: &[u8], at: usize) -> Result<(u64, usize), LebError>
     ensures { result ≡ read_unsigned s.now at }
 {
     // Most numbers have one byte, or two.
     if at < s.len() {
         let first = s[at];
         if first < 128 {
-            return Leb::Value((first % 128) as u64, at + 1);
+            return Ok(((first % 128) as u64, at + 1));
         }
         if 1 < s.len() - at {
             let second = s[at + 1];
             if second < 128 {
-                return Leb::Value((first % 128) as u64 + (second % 128) as u64 * 128, at + 2);
+                return Ok(((first % 128) as u64 + (second % 128) as u64 * 128, at + 2));
             }
         }
     }
-    match nine(s, at) {
-        Run::Ended {
-            sum,
-            power: _,
-            last: _,
-            next,
-        } => Leb::Value(sum, next),
+    match nine(s, at)? {
+        Run::Ended { sum, next, .. } => Ok((sum, next)),
         Run::Open { sum, tenth } => {
             if s.len() <= tenth {
-                return Leb::Short;
+                return Err(LebError::Short);
             }
             let b = s[tenth];
             if b <= 1 {
-                Leb::Value(sum + (b % 128) as u64 * 0x8000_0000_0000_0000, tenth + 1)
+                Ok((sum + (b % 128) as u64 * 0x8000_0000_0000_0000, tenth + 1))
             } else {
-                Leb::Large
+                Err(LebError::Large)
             }
         }
-        Run::Short => Leb::Short,
     }
 }
 
 // A signed number that ends: its groups' sum, 128 to the number of them, its last byte, and the place after it.
-fn ends(sum: u64, power: u64, last: u8, next: usize) -> Leb
+fn ends(sum: u64, power: u64, last: u8, next: usize) -> Result<(u64, usize), LebError>
     requires { (sum < power) × (power ≤ 2 ^ 63) }
     ensures { result ≡ signed_end sum power last next }
 {
     if last < 64 {
-        Leb::Value(sum, next)
+        Ok((sum, next))
     } else {
-        Leb::Value(sum + (0xffff_ffff_ffff_ffff - power) + 1, next)
+        Ok((sum + (0xffff_ffff_ffff_ffff - power) + 1, next))
     }
 }
 
-fn signed_long(s: &[u8], at: usize) -> Leb
+fn signed_long(s: &[u8], at: usize) -> Result<(u64, usize), LebError>
     ensures { result ≡ read_signed s.now at }
 {
-    match nine(s, at) {
+    match nine(s, at)? {
         Run::Ended {
             sum,
             power,
@@ -126,24 +117,23 @@ fn signed_long(s: &[u8], at: usize) -> Leb
         } => ends(sum, power, last, next),
         Run::Open { sum, tenth } => {
             if s.len() <= tenth {
-                return Leb::Short;
+                return Err(LebError::Short);
             }
             let b = s[tenth];
             if b == 0 {
-                return Leb::Value(sum, tenth + 1);
+                return Ok((sum, tenth + 1));
             }
             if b == 127 {
-                Leb::Value(sum + 0x8000_0000_0000_0000, tenth + 1)
+                Ok((sum + 0x8000_0000_0000_0000, tenth + 1))
             } else {
-                Leb::Large
+                Err(LebError::Large)
             }
         }
-        Run::Short => Leb::Short,
     }
 }
 
 // Most signed numbers have at most four bytes: a delta of 100 ns, say.
-fn signed_near(s: &[u8], at: usize) -> Leb
+fn signed_near(s: &[u8], at: usize) -> Result<(u64, usize), LebError>
     requires { at + 4 ≤ length s.now }
     ensures { result ≡ read_signed s.now at }
 {
@@ -168,8 +158,8 @@ fn signed_near(s: &[u8], at: usize) -> Leb
     signed_long(s, at)
 }
 
-// A signed number, as its 64 bits in two's complement.
-pub fn signed(s: &[u8], at: usize) -> Leb
+// A signed number, as its 64 bits in two's complement, and the place after it.
+pub fn signed(s: &[u8], at: usize) -> Result<(u64, usize), LebError>
     ensures { result ≡ read_signed s.now at }
 {
     if at < s.len() {

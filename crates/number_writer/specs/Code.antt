@@ -1,6 +1,6 @@
 -- What the proofs of `number_writer` search.
 -- Assumes nothing.
-use Rattle.std.specs.Prelude.{◌≡◌, Bool, true, false, List, [], ◌∷◌, ◌++◌, length, set, ltb, leb}
+use Rattle.std.specs.Prelude.{◌≡◌, Bool, true, false, List, [], ◌∷◌, ◌++◌, length, set, ltb, leb, Option}
 use Rattle.std.proofs.Math.Path.{refl}
 use Rattle.std.proofs.Common.{sym, ap, ◌∙◌, append_assoc, arith}
 use Prim.Native.Nat.{ℕ, zero, suc, ◌+◌, ◌-◌, ◌/◌, ◌%◌, ◌≤◌, ◌<◌}
@@ -9,7 +9,6 @@ use Rattle.std.proofs.Math.ListN.{length-set, length-append}
 use Rattle.slices.specs.Splice.{splice, part}
 use Rattle.slices.specs.Splice.Laws.{splice_nil, splice_snoc, length_part, part_all, part_splice}
 use Rattle.slices.specs.Field.{field_of, field_none, field_found, field_past}
-use Rattle.slices.specs.declared.Field.{Field}
 use Rattle.number_writer.specs.Put.{after_put}
 use Rattle.leb128.specs.Shortest.{fits, rest, groups, leb_bytes}
 use Rattle.leb128.specs.Shortest.Groups.{groups_most}
@@ -97,11 +96,14 @@ module _ {d₀ : List ℕ} {signed : Bool} {n : ℕ} {d : List ℕ} {left i : �
     spent zero q = refl
     spent (suc k) q = absurd (omega arith)
 
-    pub spent_bytes : set d i (left % 128) ≡ splice d₀ 0 (groups signed 9 n)
-    spent_bytes = ended_bytes (spent c.fuel c.turns)
+    nine : i ≡ 9
+    nine = omega (arith, c.turns)
 
-    pub spent_count : i + 1 ≡ length (groups signed 9 n)
-    spent_count = ended_count (spent c.fuel c.turns)
+    pub spent_bytes : set d 9 (left % 128) ≡ splice d₀ 0 (groups signed 9 n)
+    spent_bytes = rw nine at (ended_bytes (spent c.fuel c.turns))
+
+    pub spent_count : 10 ≡ length (groups signed 9 n)
+    spent_count = let e = ended_count (spent c.fuel c.turns) in omega (arith, nine, e)
 
   pub encode_more : {f : Bool} → f ≡ fits signed left → f ≡ false → i < 9 → {next : ℕ} → next ≡ rest signed left → Encoding d₀ signed n (set d i (128 + left % 128)) next (i + 1)
   unfolding groups
@@ -152,7 +154,7 @@ put_all out at bs e = e ∙ rw (part_all bs)
 
 -- the bytes of a number
 module _ (out : List ℕ) (at : ℕ) (bs : List ℕ) {count : ℕ} (q : count ≡ length bs) where
-  pub put_field : {f : Field} → f ≡ field_of count out at → f ≡ field_of (length bs) out at
+  pub put_field : {f : Option ℕ} → f ≡ field_of count out at → f ≡ field_of (length bs) out at
   put_field e = rw q at e
 
   pub put_bytes : (d : List ℕ) {d' : List ℕ} → d' ≡ splice d 0 bs → {out' : List ℕ} → out' ≡ after_put out at (part d' 0 count) → out' ≡ after_put out at bs

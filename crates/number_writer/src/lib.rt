@@ -9,20 +9,19 @@ ghost use Rattle.number_writer.specs.Little.{little_bytes, fixed_bytes};
 ghost use Rattle.numbers.specs.Fixed.{big_bytes};
 ghost use Rattle.number_writer.specs.Put.{after_put};
 
-use numbers::house::put_u64;
-use slices::{Field, copy_part};
+use refusals::Refusal;
+use slices::copy_part;
 
-// How a call that fills one output ends.
-#[derive(Clone, Copy)]
-pub enum Written {
-    Done {
-        read: usize,
-        count: usize,
-        steps: u64,
-    },
-    // A refusal's number and place.
-    Refused(u64, usize),
+// What a call that fills one output has done: the bytes read and written, and the steps counted.
+#[derive(Clone, Copy, PartialEq, Eq, Debug)]
+pub struct Done {
+    pub read: usize,
+    pub count: usize,
+    pub steps: u64,
 }
+
+// How such a call ends.
+pub type Written = Result<Done, Refusal>;
 
 // What is left lies within seven bits.
 fn fits(signed: bool, left: u64) -> bool
@@ -56,44 +55,42 @@ fn encode(bytes: &mut [u8], signed: bool, n: u64) -> usize
     ensures { (bytes.new ≡ splice bytes.old 0 (leb_bytes signed n)) × (result ≡ length (leb_bytes signed n)) × (result ≤ 10) }
 {
     let mut left = n;
-    let mut i: usize = 0;
-    while i < 9 {
+    for i in 0..9 {
         if fits(signed, left) {
             bytes[i] = (left % 128) as u8;
             return i + 1;
         }
         bytes[i] = (128 + left % 128) as u8;
         left = rest(signed, left);
-        i += 1;
     }
-    bytes[i] = (left % 128) as u8;
-    i + 1
+    bytes[9] = (left % 128) as u8;
+    10
 }
 
-// The first `count` of `bytes` to `out` at `at`, where they fit; otherwise nothing is written.
-fn put_front(out: &mut [u8], at: usize, bytes: &[u8], count: usize) -> Field
+// The first `count` of `bytes` to `out` at `at`, and the place after them, where they fit; otherwise nothing is written.
+fn put_front(out: &mut [u8], at: usize, bytes: &[u8], count: usize) -> Option<usize>
     requires { count ≤ length bytes.now }
     ensures { (result ≡ field_of count out.old at) × (out.new ≡ after_put out.old at (part bytes.now 0 count)) }
 {
     if out.len() < count {
-        return Field::Short;
+        return None;
     }
     if out.len() - count < at {
-        return Field::Short;
+        return None;
     }
     copy_part(bytes, 0, count, out, at);
-    Field::Next(at + count)
+    Some(at + count)
 }
 
 // All of `bytes`.
-pub fn put_bytes(out: &mut [u8], at: usize, bytes: &[u8]) -> Field
+pub fn put_bytes(out: &mut [u8], at: usize, bytes: &[u8]) -> Option<usize>
     ensures { (result ≡ field_of (length bytes.now) out.old at) × (out.new ≡ after_put out.old at bytes.now) }
 {
     put_front(out, at, bytes, bytes.len())
 }
 
 // One byte.
-pub fn put_byte(out: &mut [u8], at: usize, b: u8) -> Field
+pub fn put_byte(out: &mut [u8], at: usize, b: u8) -> Option<usize>
     ensures { (result ≡ field_of 1 out.old at) × (out.new ≡ after_put out.old at (b ∷ [])) }
 {
     let one: [u8; 1] = [b];
@@ -101,7 +98,7 @@ pub fn put_byte(out: &mut [u8], at: usize, b: u8) -> Field
 }
 
 // A number's bytes.
-fn put(out: &mut [u8], at: usize, signed: bool, n: u64) -> Field
+fn put(out: &mut [u8], at: usize, signed: bool, n: u64) -> Option<usize>
     ensures { (result ≡ field_of (length (leb_bytes signed n)) out.old at) × (out.new ≡ after_put out.old at (leb_bytes signed n)) }
 {
     let mut bytes: [u8; 10] = [0; 10];
@@ -109,50 +106,32 @@ fn put(out: &mut [u8], at: usize, signed: bool, n: u64) -> Field
     put_front(out, at, &bytes, count)
 }
 
-pub fn put_unsigned(out: &mut [u8], at: usize, n: u64) -> Field
+pub fn put_unsigned(out: &mut [u8], at: usize, n: u64) -> Option<usize>
     ensures { (result ≡ field_of (length (unsigned_bytes n)) out.old at) × (out.new ≡ after_put out.old at (unsigned_bytes n)) }
 {
     put(out, at, false, n)
 }
 
 // A signed number, given as its 64 bits.
-pub fn put_signed(out: &mut [u8], at: usize, n: u64) -> Field
+pub fn put_signed(out: &mut [u8], at: usize, n: u64) -> Option<usize>
     ensures { (result ≡ field_of (length (signed_bytes n)) out.old at) × (out.new ≡ after_put out.old at (signed_bytes n)) }
 {
     put(out, at, true, n)
 }
 
-// The eight bytes of a number at the front of `bytes`, the lowest first.
-fn spell_little(bytes: &mut [u8], v: u64)
-    requires { 8 ≤ length bytes.old }
-    ensures { bytes.new ≡ splice bytes.old 0 (little_bytes 8 v) }
-{
-    let mut left = v;
-    let mut i: usize = 0;
-    while i < 8 {
-        bytes[i] = (left % 256) as u8;
-        left /= 256;
-        i += 1;
-    }
-}
-
-fn put_little(out: &mut [u8], at: usize, v: u64) -> Field
+fn put_little(out: &mut [u8], at: usize, v: u64) -> Option<usize>
     ensures { (result ≡ field_of 8 out.old at) × (out.new ≡ after_put out.old at (little_bytes 8 v)) }
 {
-    let mut bytes: [u8; 8] = [0; 8];
-    spell_little(&mut bytes, v);
-    put_front(out, at, &bytes, 8)
+    put_bytes(out, at, &v.to_le_bytes())
 }
 
-fn put_big(out: &mut [u8], at: usize, v: u64) -> Field
+fn put_big(out: &mut [u8], at: usize, v: u64) -> Option<usize>
     ensures { (result ≡ field_of 8 out.old at) × (out.new ≡ after_put out.old at (big_bytes 8 v)) }
 {
-    let mut bytes: [u8; 8] = [0; 8];
-    put_u64(&mut bytes, 0, v);
-    put_front(out, at, &bytes, 8)
+    put_bytes(out, at, &v.to_be_bytes())
 }
 
-pub fn put_fixed(out: &mut [u8], at: usize, big_endian: bool, v: u64) -> Field
+pub fn put_fixed(out: &mut [u8], at: usize, big_endian: bool, v: u64) -> Option<usize>
     ensures { (result ≡ field_of 8 out.old at) × (out.new ≡ after_put out.old at (fixed_bytes big_endian 8 v)) }
 {
     if big_endian {

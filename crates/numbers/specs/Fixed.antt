@@ -1,8 +1,6 @@
 -- Numbers of fixed size in bytes: the lowest byte first, the highest first, or by the flag; and what of them is negative.
 -- Assumes nothing.
-use Rattle.std.specs.Prelude.{ℕ, zero, suc, ◌+◌, ◌-◌, ◌*◌, ◌/◌, ◌%◌, ◌^◌, Bool, cond, List, [], ◌∷◌, length, leb}
-use Rattle.numbers.specs.declared.fixed.Positive.{Positive}
-use Rattle.numbers.specs.declared.fixed.Positive.TheVariants.{Number, Negative}
+use Rattle.std.specs.Prelude.{ℕ, zero, suc, ◌+◌, ◌-◌, ◌*◌, ◌/◌, ◌%◌, ◌^◌, Bool, cond, List, [], ◌∷◌, length, leb, None, Option, Some}
 pub mod Laws
 pub mod Code
 
@@ -29,6 +27,6 @@ big_bytes (suc n) v = v / 256 ^ n % 256 ∷ big_bytes n v
 unfoldable pub negative : ℕ → ℕ → Bool
 negative bits v = leb (2 ^ (bits - 1)) v
 
--- "Negative numbers are refused": a signed number of 32 bits, told apart by its sign
-unfoldable pub positive : ℕ → Positive
-positive v = cond (negative 32 v) Negative (Number v)
+-- "None numbers are refused": a signed number of 32 bits, told apart by its sign
+unfoldable pub positive : ℕ → Option ℕ
+positive v = cond (negative 32 v) None (Some v)

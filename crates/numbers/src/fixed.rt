@@ -3,14 +3,7 @@ ghost use Rattle.std.specs.Prelude.{◌≡◌, ◌+◌, ◌≤◌, length};
 ghost use Rattle.slices.specs.Splice.{part};
 ghost use Rattle.numbers.specs.Fixed.{little, fixed, positive};
 
-use crate::house::{from_be_bytes, get_u32};
-
-// A signed number of 32 bits, told apart by its sign.
-#[derive(Clone, Copy)]
-pub enum Positive {
-    Number(u32),
-    Negative,
-}
+use crate::house::get_u32;
 
 // A signed number of 64 bits, as its bits.
 pub fn read_i64(big_endian: bool, s: &[u8], at: usize) -> u64
@@ -26,17 +19,13 @@ pub fn read_i64(big_endian: bool, s: &[u8], at: usize) -> u64
     }
 }
 
-// A signed number of 32 bits that must not be negative.
-pub fn read_u32(big_endian: bool, s: &[u8], at: usize) -> Positive
+// A signed number of 32 bits, where it is not negative.
+pub fn read_u32(big_endian: bool, s: &[u8], at: usize) -> Option<u32>
     requires { at + 4 ≤ length s.now }
     ensures { result ≡ positive (fixed big_endian (part s.now at 4)) }
 {
     let v = read_i32(big_endian, s, at);
-    if v < 0x8000_0000 {
-        Positive::Number(v)
-    } else {
-        Positive::Negative
-    }
+    if v < 0x8000_0000 { Some(v) } else { None }
 }
 
 // A signed number of 32 bits, as its bits.
@@ -55,5 +44,5 @@ fn little_u32(s: &[u8], at: usize) -> u32
     requires { at + 4 ≤ length s.now }
     ensures { result ≡ little (part s.now at 4) }
 {
-    from_be_bytes(s[at + 3], s[at + 2], s[at + 1], s[at])
+    u32::from_le_bytes([s[at], s[at + 1], s[at + 2], s[at + 3]])
 }

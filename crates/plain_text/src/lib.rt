@@ -1,17 +1,12 @@
 // Text in a lent room: as much of it as fits.
 #![tactic(auto)]
 
-ghost use Rattle.std.specs.Prelude.{◌≡◌, ◌<◌, ◌≤◌, ◌/◌, ◌%◌, min, drop, [], ◌∷◌};
+ghost use Rattle.std.specs.Prelude.{◌≡◌, ◌<◌, ◌≤◌, ◌/◌, ◌%◌, [], ◌∷◌};
 ghost use Rattle.plain_text.specs.Text.{digit, decimal, hex};
 ghost use Rattle.plain_text.specs.Text.Laws.{Adds};
 
+use itoa::Buffer;
 use slices::copy_part;
-
-fn least(a: usize, b: usize) -> usize
-    ensures { result ≡ min a b }
-{
-    if a < b { a } else { b }
-}
 
 // Writes what fits of `bytes`, and says where the text then ends.
 pub fn put(text: &mut [u8], at: usize, bytes: &[u8]) -> usize
@@ -20,7 +15,7 @@ pub fn put(text: &mut [u8], at: usize, bytes: &[u8]) -> usize
     if text.len() <= at {
         return at;
     }
-    let n = least(bytes.len(), text.len() - at);
+    let n = bytes.len().min(text.len() - at);
     copy_part(bytes, 0, n, text, at);
     at + n
 }
@@ -32,29 +27,11 @@ fn glyph(d: u8) -> u8
     if d < 10 { 48 + d } else { 87 + d }
 }
 
-// Writes the digits of a number so that they end the room, and says where they begin.
-fn spell(number: u64, digits: &mut [u8; 20]) -> usize
-    ensures in_bounds { result ≤ 20 }
-    ensures digits { drop result digits.new ≡ decimal number }
-{
-    let mut at: usize = 20;
-    let mut left = number;
-    while 10 <= left {
-        at -= 1;
-        digits[at] = glyph((left % 10) as u8);
-        left /= 10;
-    }
-    at -= 1;
-    digits[at] = glyph(left as u8);
-    at
-}
-
 pub fn put_decimal(text: &mut [u8], at: usize, number: u64) -> usize
     ensures { Adds text.old at (decimal number) text.new result }
 {
-    let mut digits = [0u8; 20];
-    let first = spell(number, &mut digits);
-    put(text, at, &digits[first..])
+    let mut digits = Buffer::new();
+    put(text, at, digits.format(number).as_bytes())
 }
 
 // The two digits of a byte.
@@ -69,10 +46,8 @@ pub fn put_hex(text: &mut [u8], at: usize, bytes: &[u8]) -> usize
     ensures { Adds text.old at (hex bytes.now) text.new result }
 {
     let mut end = at;
-    let mut i: usize = 0;
-    while i < bytes.len() {
-        end = put_byte(text, end, bytes[i]);
-        i += 1;
+    for byte in bytes {
+        end = put_byte(text, end, *byte);
     }
     end
 }

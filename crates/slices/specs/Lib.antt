@@ -1,3 +1,4 @@
 pub mod Choice
+pub mod Exit
 pub mod Field
 pub mod Splice

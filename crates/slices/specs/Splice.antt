@@ -2,10 +2,10 @@
 -- Assumes nothing.
 use Rattle.std.specs.Prelude.{ℕ, ◌+◌, List, ◌++◌, length, take, drop}
 pub mod Laws
-pub mod Loops
+pub mod Writes
 
 -- `l` with `bs` in place of what stands from `at` on
-unfoldable pub splice : List ℕ → ℕ → List ℕ → List ℕ
+unfoldable pub splice : {X : Type 0} → List X → ℕ → List X → List X
 splice l at bs = take at l ++ (bs ++ drop (at + length bs) l)
 
 -- `n` of `s` from `from` on

@@ -5,24 +5,17 @@ ghost use Rattle.std.specs.Prelude.{◌≡◌, ◌+◌, ◌<◌, ◌≤◌, leng
 ghost use Rattle.slices.specs.Field.{field_of};
 ghost use Rattle.slices.specs.Splice.{splice, part};
 
-// The place after a field, or that the input ends before its end.
-#[derive(Clone, Copy)]
-pub enum Field {
-    Next(usize),
-    Short,
-}
-
-// A field of `n` bytes at `at`.
-pub fn field_at(s: &[u8], at: usize, n: usize) -> Field
+// The place after a field of `n` bytes at `at`, where the input does not end before that.
+pub fn field_at(s: &[u8], at: usize, n: usize) -> Option<usize>
     ensures { result ≡ field_of n s.now at }
 {
     if s.len() < n {
-        return Field::Short;
+        return None;
     }
     if at <= s.len() - n {
-        Field::Next(at + n)
+        Some(at + n)
     } else {
-        Field::Short
+        None
     }
 }
 
@@ -31,11 +24,7 @@ pub fn copy_part(src: &[u8], from: usize, count: usize, dst: &mut [u8], at: usiz
     requires { (from + count ≤ length src.now) × (at + count ≤ length dst.old) }
     ensures { dst.new ≡ splice dst.old at (part src.now from count) }
 {
-    let mut i: usize = 0;
-    while i < count {
-        dst[at + i] = src[from + i];
-        i += 1;
-    }
+    dst[at..at + count].copy_from_slice(&src[from..from + count]);
 }
 
 // All of `bytes`, to `dst` at `at`.
@@ -43,30 +32,16 @@ pub fn write_at(dst: &mut [u8], at: usize, bytes: &[u8])
     requires { at + length bytes.now ≤ length dst.old }
     ensures { dst.new ≡ splice dst.old at bytes.now }
 {
-    copy_part(bytes, 0, bytes.len(), dst, at);
+    dst[at..at + bytes.len()].copy_from_slice(bytes);
 }
 
-// `count` bytes of `dst` from `at` on become zero.
-pub fn clear_bytes(dst: &mut [u8], at: usize, count: usize)
+// `count` elements of `dst` from `at` on become `zero`. Not by `fill`, which asks of a type parameter that its clone is a copy.
+pub fn clear<T: Copy>(dst: &mut [T], at: usize, count: usize, zero: T)
     requires { at + count ≤ length dst.old }
-    ensures { dst.new ≡ splice dst.old at (replicate count 0) }
+    ensures { dst.new ≡ splice dst.old at (replicate count zero) }
 {
-    let mut i: usize = 0;
-    while i < count {
-        dst[at + i] = 0;
-        i += 1;
-    }
-}
-
-// `count` numbers of `dst` from `at` on become zero.
-pub fn clear_numbers(dst: &mut [u32], at: usize, count: usize)
-    requires { at + count ≤ length dst.old }
-    ensures { dst.new ≡ splice dst.old at (replicate count 0) }
-{
-    let mut i: usize = 0;
-    while i < count {
-        dst[at + i] = 0;
-        i += 1;
+    for x in &mut dst[at..at + count] {
+        *x = zero;
     }
 }
 

@@ -1,5 +1,5 @@
 -- Written by tools/proof-answers from proofs.map.
-use Rattle.std.proofs.Common.{◌-◌, length}
+use Rattle.std.proofs.Common.{◌-◌}
 use Rattle.leb128.specs.Leb128.Code.{Passed}
 use Rattle.leb128.proofs.nine.Given as goal
 

@@ -12,10 +12,10 @@ use Rattle.leb128.specs.Leb128.{value, goes_on, leb_of, unsigned_tenth, signed_t
 use Rattle.slices.specs.Choice.{le_or_lt}
 use Rattle.leb128.specs.Leb128.Nine.{Ends, Stays, Cut, Nine, signed_end}
 use Rattle.leb128.specs.Leb128.Laws.{value_next, count_taken, last_taken}
-use Rattle.leb128.specs.declared.Leb.{Leb}
-use Rattle.leb128.specs.declared.Leb.TheVariants.{Value, Large}
-use Rattle.leb128.specs.declared.Run.{Run}
-use Rattle.leb128.specs.declared.Run.TheVariants.{Ended, Open}
+use Rattle.std.specs.Prelude.{Err}
+use Rattle.leb128.specs.declared.LebError.{LebError}
+use Rattle.leb128.specs.declared.LebError.TheVariants as error
+use Rattle.leb128.specs.Leb.{Leb, Value, Short, Large, Started, Ended, Open}
 
 -- ---- the count
 
@@ -123,7 +123,7 @@ module _ {s : List ℕ} {at sum power i k : ℕ} (p : Passed s at sum power i k)
 
 -- ---- the number, from what the first nine bytes tell
 
-module _ (test : ℕ → Bool) (number : List ℕ → ℕ) (s : List ℕ) (at : ℕ) {r : Run} (n : Nine s at r) where
+module _ (test : ℕ → Bool) (number : List ℕ → ℕ) (s : List ℕ) (at : ℕ) {r : Started} (n : Nine s at r) where
   pub leb_ended : {sum power last next : ℕ} → r ≡ Ended sum power last next
       → (v : ℕ) → (Ends (drop at s) at sum power last next → v ≡ number (take (goes_on (drop at s) + 1) (drop at s)))
       → Value v next ≡ leb_of test number (drop at s) at
@@ -132,13 +132,14 @@ module _ (test : ℕ → Bool) (number : List ℕ → ℕ) (s : List ℕ) (at : 
       let f : Ends (drop at s) at sum power last next = subst (Nine s at) e n in
       simp (lt-ltb _ _ f.soon, lt-ltb _ _ f.inside, g f, f.after)
 
-  pub leb_short : r ≡ Run.Short → Leb.Short ≡ leb_of test number (drop at s) at
+  pub leb_failed : {x : LebError} → r ≡ Err x → {y : Leb} → y ≡ Err x → y ≡ leb_of test number (drop at s) at
   unfolding leb_of
-  leb_short e =
+  leb_failed {x = error.Short} e d =
       let f : Cut (drop at s) = subst (Nine s at) e n in
-      simp (lt-ltb _ _ f.soon, le-ltb _ _ f.past)
+      d ∙ simp (lt-ltb _ _ f.soon, le-ltb _ _ f.past)
+  leb_failed {x = error.Large} e d = absurd (subst (Nine s at) e n)
 
-module _ (s : List ℕ) (at : ℕ) {r : Run} (n : Nine s at r) {sum tenth : ℕ} (e : r ≡ Open sum tenth) where
+module _ (s : List ℕ) (at : ℕ) {r : Started} (n : Nine s at r) {sum tenth : ℕ} (e : r ≡ Open sum tenth) where
   stays : Stays (drop at s) at sum tenth
   stays = subst (Nine s at) e n
 
@@ -148,7 +149,7 @@ module _ (s : List ℕ) (at : ℕ) {r : Run} (n : Nine s at r) {sum tenth : ℕ}
   pub ten_fits : Fits w64 (sum + 0x8000_0000_0000_0000)
   ten_fits = omega (arith, stays.below)
 
-  pub leb_cut : (test : ℕ → Bool) (number : List ℕ → ℕ) → length s ≤ tenth → Leb.Short ≡ leb_of test number (drop at s) at
+  pub leb_cut : (test : ℕ → Bool) (number : List ℕ → ℕ) → length s ≤ tenth → Short ≡ leb_of test number (drop at s) at
   unfolding leb_of
   leb_cut test number h = simp (le-ltb _ _ stays.long, le-ltb 9 (length (drop at s)) (rw length-drop (omega (arith, stays.after))))
 
@@ -175,7 +176,7 @@ module _ (s : List ℕ) (at : ℕ) {r : Run} (n : Nine s at r) {sum tenth : ℕ}
 
 -- ---- unsigned
 
-pub unsigned_ended : (s : List ℕ) (at : ℕ) {r : Run} → Nine s at r → {sum power last next : ℕ} → r ≡ Ended sum power last next
+pub unsigned_ended : (s : List ℕ) (at : ℕ) {r : Started} → Nine s at r → {sum power last next : ℕ} → r ≡ Ended sum power last next
     → Value sum next ≡ read_unsigned s at
 unsigned_ended s at n {sum} e = leb_ended _ _ s at n e sum (λ f. f.total)
 
@@ -197,7 +198,7 @@ pub unsigned_large : (b : ℕ) → 1 < b → unsigned_tenth b ≡ false
 unfolding unsigned_tenth
 unsigned_large b h = lt-leb b 1 h
 
-pub unsigned_ten : (s : List ℕ) (at : ℕ) {r : Run} → Nine s at r → {sum tenth : ℕ} → r ≡ Open sum tenth → tenth < length s
+pub unsigned_ten : (s : List ℕ) (at : ℕ) {r : Started} → Nine s at r → {sum tenth : ℕ} → r ≡ Open sum tenth → tenth < length s
     → get_or s tenth 0 ≤ 1 → Value (sum + get_or s tenth 0 % 128 * 0x8000_0000_0000_0000) (tenth + 1) ≡ read_unsigned s at
 unfolding unsigned_tenth
 unsigned_ten s at n e h b = leb_ten s at n e h unsigned_tenth value (le-leb _ 1 b) _ (sym (ten_sum s at n e h))
@@ -233,7 +234,7 @@ end_fits sum power b m = omega arith
 pub end_fits_one : (sum power : ℕ) → sum < power → power ≤ 2 ^ 63 → Fits w64 (sum + (0xffff_ffff_ffff_ffff - power) + 1)
 end_fits_one sum power b m = omega arith
 
-module _ (s : List ℕ) (at : ℕ) {r : Run} (n : Nine s at r) where
+module _ (s : List ℕ) (at : ℕ) {r : Started} (n : Nine s at r) where
   module _ {sum power last next : ℕ} (e : r ≡ Ended sum power last next) where
     ends : Ends (drop at s) at sum power last next
     ends = subst (Nine s at) e n
@@ -343,10 +344,10 @@ module _ (a : ℕ) where
 -- what the proofs of `nine`, `unsigned` and `signed` search
 pub ruleset nine_laws = (passed_none, passed_more, weight_fits, group_fits, sum_fits, nine_ended, nine_short, nine_open)
 
-pub ruleset unsigned_laws = (unsigned_one, unsigned_two, leb_short, leb_cut, leb_large, tenth_fits, unsigned_ended, unsigned_large, unsigned_ten)
+pub ruleset unsigned_laws = (unsigned_one, unsigned_two, leb_failed, leb_cut, leb_large, tenth_fits, unsigned_ended, unsigned_large, unsigned_ten)
 
 pub ruleset signed_laws =
-    (leb_short, leb_cut, leb_large, ten_fits, ended_below, ended_most, signed_ended, signed_large, signed_ten_low, signed_ten_high)
+    (leb_failed, leb_cut, leb_large, ten_fits, ended_below, ended_most, signed_ended, signed_large, signed_ten_low, signed_ten_high)
 
 pub ruleset end_laws = (end_low, end_high, end_fits, end_fits_one)
 

@@ -3,7 +3,7 @@
 use Rattle.std.specs.Prelude.{◌≡◌, refl, ℕ, ◌^◌, ◌-◌, List, [], ◌∷◌, ◌++◌, length, replicate, ℤ, pos, neg_ℤ}
 use Rattle.std.proofs.Common.{of_z}
 use Rattle.std.specs.Int.{w64}
-use Rattle.leb128.specs.declared.Leb.TheVariants.{Value, Short, Large}
+use Rattle.leb128.specs.Leb.{Value, Short, Large}
 use Rattle.leb128.specs.Leb128.{value, goes_on, signed_value, signed_bits, leb_of, unsigned_tenth, signed_tenth, read_unsigned, read_signed}
 
 -- the bytes spell the unsigned number n, and nothing is left

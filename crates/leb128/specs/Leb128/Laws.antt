@@ -8,8 +8,7 @@ use mir.ValLaws.{to_z-of_z, of_z_fits}
 use Rattle.std.specs.Int.{w64}
 use Rattle.slices.specs.Choice.{cond_ind}
 use Rattle.leb128.specs.Leb128.{value, goes_on, leb_of, unsigned_tenth, signed_tenth, signed_value, signed_bits, read_unsigned, read_signed}
-use Rattle.leb128.specs.declared.Leb.{Leb}
-use Rattle.leb128.specs.declared.Leb.TheVariants.{Value, Short, Large}
+use Rattle.leb128.specs.Leb.{Leb, Value, Short, Large}
 
 -- ---- the sum
 

@@ -2,10 +2,9 @@
 -- Assumes nothing.
 use Rattle.std.specs.Prelude.{◌≡◌, ℕ, ◌+◌, ◌-◌, ◌^◌, ◌≤◌, ◌<◌, cond, List, ltb, length, get_or, take, drop}
 use Rattle.leb128.specs.Leb128.{value, goes_on}
-use Rattle.leb128.specs.declared.Leb.{Leb}
-use Rattle.leb128.specs.declared.Leb.TheVariants.{Value}
-use Rattle.leb128.specs.declared.Run.{Run}
-use Rattle.leb128.specs.declared.Run.TheVariants.{Ended, Open, Short}
+use Rattle.std.specs.Prelude.{Err}
+use Rattle.leb128.specs.declared.LebError.TheVariants as error
+use Rattle.leb128.specs.Leb.{Leb, Value, Started, Ended, Open}
 
 -- the number ends within nine bytes
 pub record Ends (l : List ℕ) (at sum power last next : ℕ) : Type 0 where
@@ -31,10 +30,11 @@ pub record Cut (l : List ℕ) : Type 0 where
   pub soon : goes_on l < 9
   pub past : length l ≤ goes_on l
 
-abbrev pub Nine : List ℕ → ℕ → Run → Type 0
+abbrev pub Nine : List ℕ → ℕ → Started → Type 0
 Nine s at (Ended sum power last next) = Ends (drop at s) at sum power last next
 Nine s at (Open sum tenth) = Stays (drop at s) at sum tenth
-Nine s at Short = Cut (drop at s)
+Nine s at (Err error.Short) = Cut (drop at s)
+Nine s at (Err error.Large) = ⊥
 
 -- a signed number that ends, by the sum and the weight of its bytes and the last of them: below 0 where bit 6 of that is set
 abbrev pub signed_end : ℕ → ℕ → ℕ → ℕ → Leb

@@ -14,8 +14,7 @@ use Rattle.std.proofs.Math.Seq.{take_at}
 use Rattle.slices.specs.Choice.{cond_ind, le_or_lt}
 use Rattle.leb128.specs.Leb128.{value, goes_on, leb_of, unsigned_tenth, signed_tenth, signed_value, signed_bits, read_unsigned, read_signed}
 use Rattle.leb128.specs.Leb128.Laws.{value_next, value_below, count_taken, last_taken, leb_ind}
-use Rattle.leb128.specs.declared.Leb.{Leb}
-use Rattle.leb128.specs.declared.Leb.TheVariants.{Value, Short, Large}
+use Rattle.leb128.specs.Leb.{Leb, Value, Short, Large}
 use Rattle.leb128.specs.Shortest.{leb_bytes, unsigned_bytes, signed_bytes}
 use Rattle.leb128.specs.Shortest.Groups.{groups_some, groups_most, goes_on_lem, last_of, last_below, unsigned_value, unsigned_short, signed_low, signed_low_short, signed_high, signed_high_short}
 

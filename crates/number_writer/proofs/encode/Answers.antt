@@ -1,4 +1,3 @@
--- Written by tools/proof-answers from proofs.map.
 use Rattle.std.proofs.Common.{rules}
 use Rattle.number_writer.specs.Code.{encode_laws}
 use Rattle.number_writer.proofs.encode.Goals as goal

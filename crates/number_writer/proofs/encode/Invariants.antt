@@ -1,10 +1,5 @@
--- Written by tools/proof-answers from proofs.map.
-use Rattle.std.proofs.Common.{◌-◌, length}
 use Rattle.number_writer.specs.Code.{Encoding}
 use Rattle.number_writer.proofs.encode.Given as goal
 
 abbrev pub invariant-loop-i : goal.invariant-loop-i
 invariant-loop-i l = Encoding l.initial.bytes l.signed l.n l.bytes l.left l.i
-
-abbrev pub decreases-loop-i : goal.decreases-loop-i
-decreases-loop-i l = 9 - l.i

@@ -1,6 +1,6 @@
 -- The laws of numbers of fixed size, over any number of bytes.
 -- Assumes nothing.
-use Rattle.std.specs.Prelude.{◌≡◌, refl, ℕ, zero, suc, ◌+◌, ◌-◌, ◌*◌, ◌/◌, ◌%◌, ◌^◌, ◌≤◌, ◌<◌, Bool, true, false, not, length, get_or, take, drop}
+use Rattle.std.specs.Prelude.{◌≡◌, refl, ℕ, zero, suc, ◌+◌, ◌-◌, ◌*◌, ◌/◌, ◌%◌, ◌^◌, ◌≤◌, ◌<◌, Bool, true, false, not, length, get_or, take, drop, None, Option, Some}
 use Rattle.std.proofs.Common.{ap, sym, ◌∙◌, ⊎_elim, mod-lt, mod-eq_of_lt, add_assoc, add-zero, suc-add, zero-add, mul_assoc, mul_comm, add-mul, mul-add, div-add-mod', arith, length-append, length-take, get_or-take, get_or-drop, pow-add, leb-true, leb-false, le-leb, le-ltb, lt-ltb}
 use mathlib.Core.List.{List, [], ◌∷◌, ◌++◌, reverse, reverse-cons}
 use Rattle.std.proofs.Math.Nat.{pow-succ', one-le-pow, mod-one, div-div-eq-div-mul, mul-add-div_right, mul-add-mod_self_right}
@@ -14,8 +14,6 @@ use Rattle.slices.specs.Choice.{le_or_lt, cond_ind}
 use Rattle.slices.specs.Splice.{splice, part}
 use Rattle.slices.specs.Splice.Laws.{length_part, part_snoc, part_zero, part_splice}
 use Rattle.numbers.specs.Fixed.{little, big, fixed, big_bytes, negative, positive}
-use Rattle.numbers.specs.declared.fixed.Positive.{Positive}
-use Rattle.numbers.specs.declared.fixed.Positive.TheVariants.{Number, Negative}
 
 -- every number of the list is a byte
 abbrev pub Bytes : List ℕ → Type 0
@@ -151,10 +149,10 @@ negative_is w v =
     (le_or_lt (2 ^ hbits w) v)
 
 -- what a signed number of 32 bits told apart tells
-abbrev pub Told : ℕ → Positive → Type 0
-Told v (Number n) = (n ≡ v) × (v < 2 ^ 31)
-Told v Negative = 2 ^ 31 ≤ v
+abbrev pub Told : ℕ → Option ℕ → Type 0
+Told v (Some n) = (n ≡ v) × (v < 2 ^ 31)
+Told v None = 2 ^ 31 ≤ v
 
 pub told : (v : ℕ) → Told v (positive v)
 unfolding positive
-told v = cond_ind (negative 32 v) Negative (Number v) (Told v) (λ t. negative_true 32 v t) (λ t. (refl, negative_false 32 v t))
+told v = cond_ind (negative 32 v) None (Some v) (Told v) (λ t. negative_true 32 v t) (λ t. (refl, negative_false 32 v t))

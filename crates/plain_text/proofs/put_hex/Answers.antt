@@ -1,10 +1,9 @@
--- Written by tools/proof-answers from proofs.map.
 use Rattle.std.proofs.Common.{rules}
 use Rattle.plain_text.specs.Text.Laws.{hex_laws}
 use Rattle.plain_text.proofs.put_hex.Goals as goal
 
-pub loop-i-preserved : goal.loop-i-preserved
-loop-i-preserved c = search (hex_laws, rules)
+pub loop-byte-preserved : goal.loop-byte-preserved
+loop-byte-preserved c = search (hex_laws, rules)
 
 pub returns : goal.returns
 returns c = search (hex_laws, rules)

@@ -1,6 +1,6 @@
 -- The digits of a number as the toolchain's library `io` has them are those of `decimal`.
 -- Assumes nothing.
-use Rattle.std.specs.Prelude.{◌≡◌, ◌⊎◌}
+use Rattle.std.specs.Prelude.{◌≡◌}
 use Rattle.std.proofs.Common.{⊎_elim, mod-eq_of_lt, lt-ltb, le-ltb, Fits}
 use Prim.Native.Nat.{ℕ, zero, suc, ◌-◌, ◌*◌, ◌/◌, ◌^◌, ◌≤◌, ◌<◌}
 use mathlib.Core.List.{List}

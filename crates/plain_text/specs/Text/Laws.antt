@@ -1,16 +1,16 @@
 -- Laws of text in a room, and what the proofs of `text` search.
 -- Assumes nothing.
 use Rattle.std.specs.Prelude.{◌≡◌, refl, drop, get_or}
-use Rattle.std.proofs.Common.{sym, ◌∙◌, ⊎_elim, zero-add, add-one, lt-ltb, le-ltb, drop_of_length-le, length-take-le, drop-cons, Fits}
+use Rattle.std.proofs.Common.{sym, ◌∙◌, ⊎_elim, zero-add, add-one, lt-ltb, le-ltb, drop_of_length-le, length-take-le, drop-cons}
 use Rattle.std.proofs.Math.Path.{ap}
-use Prim.Native.Nat.{ℕ, zero, suc, ◌+◌, ◌-◌, ◌*◌, ◌/◌, ◌%◌, ◌^◌, ◌≤◌, ◌<◌, min}
+use Prim.Native.Nat.{ℕ, ◌+◌, ◌-◌, ◌/◌, ◌%◌, ◌^◌, ◌≤◌, ◌<◌, min}
 use mathlib.Core.List.{List, [], ◌∷◌, ◌++◌, append_assoc, append-nil}
-use Rattle.std.proofs.Math.Nat.{pow-succ'}
 use native.Mathlib.Omega.{arith}
-use Rattle.std.proofs.Math.ListN.{length, set, take, length-append, length-take}
+use Rattle.std.proofs.Math.ListN.{length, take, length-append, length-take}
 use Rattle.std.proofs.Math.Seq.{take_all, take-nil, take-append-add}
-use Rattle.std.proofs.lemmas.List.{take-append-le, length-set, drop-set}
-use Rattle.std.specs.Int.{w64}
+use Rattle.std.proofs.lemmas.List.{take-append-le}
+use Rattle.std.specs.Fmt as Fmt
+use Rattle.std.proofs.lemmas.Fmt.{AppendsLastDigit, decimal_from_appends, length-decimal-le}
 use Rattle.slices.specs.Choice.{le_or_lt}
 use Rattle.slices.specs.Splice.{splice, part}
 use Rattle.slices.specs.Splice.Laws.{splice_nil, splice_splice, length_splice}
@@ -103,70 +103,14 @@ module _ (t bs : List ℕ) (at : ℕ) where
 
 -- ---- digits
 
-decimal_more : (m n : ℕ) → 10 ≤ n → decimal_of (suc m) n ≡ decimal_of m (n / 10) ++ (digit (n % 10) ∷ [])
-unfolding decimal_of
-decimal_more m n h = rw (le-ltb n 10 h)
+by_tens : AppendsLastDigit decimal_of
+unfolding digit decimal_of
+by_tens = record { one = λ m n h. rw (lt-ltb n 10 h); more = λ m n h. rw (le-ltb n 10 h, lt-ltb (n % 10) 10 (omega arith)) }
 
-decimal_last : (m n : ℕ) → n < 10 → decimal_of (suc m) n ≡ digit n ∷ []
-unfolding decimal_of
-decimal_last m n h = rw (lt-ltb n 10 h)
-
--- the digits of `n` from place `at` on are written, and those of `left` are to come before them
-pub record Spelling (n : ℕ) (d : List ℕ) (at left : ℕ) : Type 0 where
-  pub some : 1 ≤ at
-  pub fits : left < 10 ^ at
-  pub room : at ≤ length d
-  pub rest : decimal_of at left ++ drop at d ≡ decimal n
-
-pub spelling_none : {n : ℕ} {d : List ℕ} → Fits w64 n → 20 ≡ length d → Spelling n d 20 n
+-- what the library's text of a number is
+pub adds_number : {t w x t' : List ℕ} {at at' : ℕ} (n : ℕ) → Adds t at w t' at' → w ≡ x → x ≡ Fmt.decimal n → n < 2 ^ 64 → Adds t at (decimal n) t' at'
 unfolding decimal
-spelling_none {n} {d} f l =
-    record {
-      some = omega arith;
-      fits = omega arith;
-      room = omega arith;
-      rest = rw (drop_of_length-le d {i = 20} (omega arith), append-nil (decimal_of 20 n));
-    }
-
-two_of : (at left : ℕ) → left < 10 ^ at → 10 ≤ left → 2 ≤ at
-two_of zero left f h = absurd (omega arith)
-two_of (suc zero) left f h = absurd (omega arith)
-two_of (suc (suc m)) left f h = omega arith
-
-spelling_step : (m : ℕ) {n left x : ℕ} {d : List ℕ} → Spelling n d (suc m) left → 10 ≤ left → x ≡ digit (left % 10) → Spelling n (set d m x) m (left / 10)
-spelling_step m {n} {left} {x} {d} c h e =
-    let up : 10 ^ suc m ≡ 10 * 10 ^ m = pow-succ' 10 m in
-    let lt : m < length d = omega (arith, c.room) in
-    let two : 2 ≤ suc m = two_of (suc m) left c.fits h in
-    let old : (decimal_of m (left / 10) ++ (digit (left % 10) ∷ [])) ++ drop (suc m) d ≡ decimal n = rw (decimal_more m left h) at c.rest in
-    record {
-      some = omega arith;
-      fits = omega (arith, c.fits);
-      room = rw (length-set d m x) (omega arith);
-      rest = rw (drop-set d m x lt, add-one m, e) (rw (append_assoc (decimal_of m (left / 10)) (digit (left % 10) ∷ []) (drop (suc m) d)) at old);
-    }
-
-spelling_first : (m : ℕ) {n left x : ℕ} {d : List ℕ} → Spelling n d (suc m) left → left < 10 → x ≡ digit left → drop m (set d m x) ≡ decimal n
-spelling_first m {n} {left} {x} {d} c h e =
-    let lt : m < length d = omega (arith, c.room) in
-    let old : (digit left ∷ []) ++ drop (suc m) d ≡ decimal n = rw (decimal_last m left h) at c.rest in
-    rw (drop-set d m x lt, add-one m, e) old
-
-module _ {n at left : ℕ} {d : List ℕ} (c : Spelling n d at left) where
-  pub spelling_at : 1 ≤ at
-  spelling_at = c.some
-
-  pub spelling_in : at - 1 < length d
-  spelling_in = omega (arith, c.some, c.room)
-
-  down : Spelling n d (suc (at - 1)) left
-  down = let e : at ≡ suc (at - 1) = omega (arith, c.some) in rw e at c
-
-  pub spelling_on : 10 ≤ left → {x : ℕ} → x ≡ digit (left % 10) → Spelling n (set d (at - 1) x) (at - 1) (left / 10)
-  spelling_on h e = spelling_step (at - 1) down h e
-
-  pub spelling_all : left < 10 → {x : ℕ} → x ≡ digit left → drop (at - 1) (set d (at - 1) x) ≡ decimal n
-  spelling_all h e = spelling_first (at - 1) down h e
+adds_number n a p q h = rw (decimal_from_appends decimal_of by_tens 20 n h (length-decimal-le 20 n (omega arith) (omega arith) h), ← q, ← p) a
 
 -- ---- bytes in hex
 
@@ -213,7 +157,7 @@ module _ {t t' : List ℕ} {at at' x y : ℕ} (b : ℕ) where
 
 pub ruleset digit_laws = (digit_low, digit_high)
 
-pub ruleset spell_laws = (spelling_none, spelling_at, spelling_in, spelling_on, spelling_all)
+pub ruleset number_laws = (adds_number)
 
 pub ruleset byte_laws = (adds_pair)
 

@@ -1,10 +1,7 @@
 -- Written by tools/proof-answers from proofs.map.
 use Rattle.std.proofs.Common.{rules}
-use Rattle.slices.specs.Splice.Loops.{copy_laws}
+use Rattle.slices.specs.Splice.Writes.{copy_laws}
 use Rattle.slices.proofs.copy_part.Goals as goal
 
-pub loop-i-init : goal.loop-i-init
-loop-i-init c = search (copy_laws, rules)
-
-pub loop-i-preserved : goal.loop-i-preserved
-loop-i-preserved c = search (copy_laws, rules)
+pub returns : goal.returns
+returns c = search (copy_laws, rules)

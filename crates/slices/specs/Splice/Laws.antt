@@ -1,12 +1,12 @@
 -- Laws of `splice` and `part`.
-use Rattle.std.specs.Prelude.{ℕ, suc, ◌+◌, ◌-◌, ◌<◌, ◌≤◌, ◌≡◌, refl, replicate, take, set}
-use Rattle.std.proofs.Common.{sym, ◌∙◌, add-zero, zero-add, add_assoc, add-one, length-append, length-take, length-drop, take-append-drop, drop_of_length-le, take-add, take_all, take-suc, drop-cons, take_at, drop_at, drop-drop, get_or-drop, get_or-append-add}
+use Rattle.std.specs.Prelude.{ℕ, suc, ◌+◌, ◌-◌, ◌<◌, ◌≤◌, ◌≡◌, refl, take, set}
+use Rattle.std.proofs.Common.{sym, ◌∙◌, add-zero, add-one, length-append, length-take, length-drop, take-append-drop, drop_of_length-le, take-add, take_all, take-suc, drop-cons, take_at, drop_at, drop-drop, get_or-drop, get_or-append-add}
 use Rattle.std.proofs.Math.Path.{ap}
 use mathlib.Core.List.{List, [], ◌∷◌, ◌++◌, append_assoc, append-nil}
 use native.Mathlib.Omega.{arith}
-use Rattle.std.proofs.lemmas.List.{length-replicate, replicate-append-replicate, set_at}
+use Rattle.std.proofs.lemmas.List.{set_at}
 use Rattle.std.proofs.Math.ListN.{length, drop, get_or, get_or-append}
-use Rattle.std.proofs.Math.Seq.{drop-append-add, get_or-take, length-take-le, take-append_seam, append_snoc}
+use Rattle.std.proofs.Math.Seq.{get_or-take, length-take-le, take-append_seam, append_snoc}
 use Rattle.slices.specs.Splice.{splice, part}
 
 pub splice_nil : (l : List ℕ) (at : ℕ) → l ≡ splice l at []
@@ -58,20 +58,6 @@ splice_end l at bs h = rw (drop_of_length-le l {i = at + length bs} (omega arith
 -- a whole list in place of another
 pub splice_all : (l bs : List ℕ) → length bs ≡ length l → splice l 0 bs ≡ bs
 splice_all l bs h = splice_end l 0 bs (omega arith)
-
--- a turn of a loop that copies
-pub copy_more : (d : List ℕ) (at : ℕ) (s : List ℕ) (from i : ℕ) → at + i < length d → from + i < length s → set (splice d at (part s from i)) (at + i) (get_or s (from + i) 0) ≡ splice d at (part s from (i + 1))
-copy_more d at s from i hd hs =
-    let n : length (part s from i) ≡ i = length_part s from i (omega arith) in
-    let h : at + length (part s from i) < length d = rw n hd in
-    rw (part_snoc s from i hs) (rw n at (splice_snoc d at (part s from i) (get_or s (from + i) 0) h))
-
-pub replicate_snoc : (i v : ℕ) → replicate i v ++ (v ∷ []) ≡ replicate (i + 1) v
-replicate_snoc i v = replicate-append-replicate i 1 v
-
--- a turn of a loop that clears
-pub clear_more : (d : List ℕ) (at i : ℕ) → at + i < length d → set (splice d at (replicate i 0)) (at + i) 0 ≡ splice d at (replicate (i + 1) 0)
-clear_more d at i h = rw (length-replicate, replicate_snoc) at (splice_snoc d at (replicate i 0) 0 (rw length-replicate h))
 
 -- what stands where
 module _ (l : List ℕ) (at : ℕ) (bs : List ℕ) (h : at + length bs ≤ length l) where

@@ -1,7 +1,0 @@
--- Written by tools/proof-answers from proofs.map.
-use Rattle.std.proofs.Common.{rules}
-use Rattle.numbers.specs.Fixed.Code.{house_laws}
-use Rattle.numbers.proofs.house.from_be_bytes.Goals as goal
-
-pub returns : goal.returns
-returns c = search (house_laws, rules)

@@ -1,0 +1,6 @@
+use Rattle.std.proofs.Common.{◌≡◌, replicate}
+use lib.Seq.{paste}
+use Rattle.slices.proofs.clear.Given as goal
+
+abbrev pub invariant-loop-x : goal.invariant-loop-x
+invariant-loop-x g l = l.x-items ≡ paste l.initial.x-items 0 (replicate l.x-index l.zero) l.x-index
