@@ -2,15 +2,18 @@
 -- Assumes nothing.
 use Rattle.std.proofs.Math.Path.{◌≡◌, refl, sym, ap}
 use Rattle.std.proofs.Common.{subst, ◌∙◌, le-leb}
-use Rattle.std.specs.Prelude.{ℕ, zero, suc, ◌≤◌, ◌<◌, Bool, true, false}
+use Rattle.std.specs.Prelude.{ℕ, zero, suc, ◌≤◌, ◌<◌, Bool, true, false, Ok, Err}
 use native.Mathlib.Omega.{arith}
 use Rattle.slices.specs.Choice.{cond_ind}
+use Rattle.refusals.specs.declared.Reason.{Reason}
+use Rattle.refusals.specs.declared.Reason.TheVariants.{RoomShort}
+use Rattle.refusals.specs.Numbers.{number_of, reason_of}
+use Rattle.refusals.specs.Laws.{same_reason}
 use Rattle.tables.specs.Lists.{Lists, vectors, signals}
 use Rattle.tables.specs.Checks.{unless, lowest, and_then, within_limit, good_vector, good_signal, names_all, check1, check2, check3, check4, check5, check6, checks}
 use Rattle.tables.specs.Checks.Laws.{then_passed}
 use Rattle.tables.specs.Good.Laws.{limits}
-use Rattle.tables.specs.declared.Check.{Check}
-use Rattle.tables.specs.declared.Check.TheVariants.{Passed, Refused}
+use Rattle.tables.specs.Check.{Check, Passed, Refused}
 
 unfoldable pub checks_without_room : Lists → (input out : ℕ) → Check
 checks_without_room t input out = and_then (check1 input out 0 0 0) (and_then (check2 t) (and_then (check3 t) (and_then (check4 t) (check5 t))))
@@ -41,11 +44,16 @@ unfolding and_then
 then_assoc Passed b c = refl
 then_assoc (Refused n p) b c = refl
 
+-- the number of a check's refusal
+refused_number : Check → ℕ
+refused_number Passed = 0
+refused_number (Refused n p) = n
+
 -- check 6 gives 6 or passes
 unless_six : (good : Bool) (n p : ℕ) → unless good 6 ≡ Refused n p → n ≡ 6
-unfolding unless
+unfolding unless refused_number
 unless_six true n p e = absurd (let z : ◌≡◌ {A = ℕ} 0 1 = cc in omega arith)
-unless_six false n p e = cc
+unless_six false n p e = sym (ap refused_number e)
 
 module _ (t : Lists) (input out : ℕ) where
   numbered : Numbered (checks_without_room t input out)
@@ -78,27 +86,28 @@ module _ (t : Lists) (input out : ℕ) where
 
   module _ {r : Check} (e : r ≡ checks t input out 0 0 0) where
     by : (w : Check) → w ≡ checks_without_room t input out → Numbered w → (x : Check) → r ≡ x → and_then w (check6 t 0 0) ≡ x → (x ≡ Passed → Passed ≡ w) × ((n p : ℕ) → x ≡ Refused n p → n ≡ 6 → Passed ≡ w) × ((n p : ℕ) → x ≡ Refused n p → (n ≡ 6 → ⊥) → Refused n p ≡ w)
-    unfolding and_then
+    unfolding and_then refused_number
     by Passed q m x d h = (λ y. refl, λ n p y z. refl, λ n p y z. absurd (z (six n p (h ∙ y))))
     by (Refused k j) q m x d h =
-        (λ y. absurd (let z : ◌≡◌ {A = ℕ} 0 1 = cc in omega arith), λ n p y z. absurd (let g : k ≡ n = cc in omega (arith, m.1)), λ n p y z. sym (h ∙ y))
+        (λ y. absurd (let z : ◌≡◌ {A = ℕ} 0 1 = cc in omega arith), λ n p y z. absurd (let g : k ≡ n = ap refused_number (h ∙ y) in omega (arith, m.1)), λ n p y z. sym (h ∙ y))
 
     found : (x : Check) → r ≡ x → (x ≡ Passed → Passed ≡ checks_without_room t input out) × ((n p : ℕ) → x ≡ Refused n p → n ≡ 6 → Passed ≡ checks_without_room t input out) × ((n p : ℕ) → x ≡ Refused n p → (n ≡ 6 → ⊥) → Refused n p ≡ checks_without_room t input out)
     found x d = by (checks_without_room t input out) refl numbered x d (sym all_checks ∙ (sym e ∙ d))
 
-    pub checks_passed : r ≡ Passed → Passed ≡ checks_without_room t input out
-    checks_passed d = (found Passed d).0 refl
+    pub checks_passed : {u : Unit {0}} → r ≡ Ok u → Passed ≡ checks_without_room t input out
+    checks_passed {u = tt} d = (found Passed d).0 refl
 
-    module _ {n p : ℕ} (d : r ≡ Refused n p) where
-      pub checks_six : n ≡ 6 → Passed ≡ checks_without_room t input out
-      checks_six z = (found (Refused n p) d).1 n p refl z
+    -- a refusal is its number and its place to clauses, and to the code its reason and its place
+    module _ {why : Reason} {place : ℕ} {refusal : ℕ × ℕ} (is : (number_of why, place) ≡ refusal) (d : r ≡ Err refusal) where
+      pub checks_short : why ≡ RoomShort → Passed ≡ checks_without_room t input out
+      checks_short z = (found _ (d ∙ ap Err (sym is))).1 _ _ refl (ap number_of z)
 
-      pub checks_refused : (n ≡ 6 → ⊥) → Refused n p ≡ checks_without_room t input out
-      checks_refused z = (found (Refused n p) d).2 n p refl z
+      pub checks_refused : (why ≡ RoomShort → ⊥) → Err refusal ≡ checks_without_room t input out
+      checks_refused z = ap Err (sym is) ∙ (found _ (d ∙ ap Err (sym is))).2 _ _ refl (λ six. z (sym (same_reason why) ∙ ap reason_of six))
 
 -- all lengths within their limits pass alike
 pub without_alike : (t : Lists) (input out input' out' : ℕ) → input ≤ 16777215 → out ≤ 1073741823 → input' ≤ 16777215 → out' ≤ 1073741823 → checks_without_room t input out ≡ checks_without_room t input' out'
 unfolding checks_without_room check1 within_limit
 without_alike t input out input' out' a b c d = rw (le-leb input 16777215 a, le-leb out 1073741823 b, le-leb input' 16777215 c, le-leb out' 1073741823 d)
 
-pub ruleset checked_laws = (checks_passed, checks_six, checks_refused)
+pub ruleset checked_laws = (checks_passed, checks_short, checks_refused)

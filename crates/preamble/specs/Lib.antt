@@ -1,1 +1,4 @@
+pub mod Going
+pub mod Item
+pub mod Opened
 pub mod Preamble

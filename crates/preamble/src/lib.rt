@@ -1,15 +1,17 @@
 // The records before the section bytes: signals, vectors and the flag.
 #![tactic(auto)]
 
-ghost use Rattle.std.specs.Prelude.{◌≡◌, ◌+◌, ◌≤◌, length};
+ghost use Rattle.std.specs.Prelude.{◌≡◌, Ok, ◌+◌, ◌≤◌, length};
 ghost use Rattle.tables.specs.Lists.{lists};
 ghost use Rattle.preamble.specs.Preamble.{item_length, signal_at, vector_at, flag_at, whole_item, item_at};
 ghost use Rattle.preamble.specs.Preamble.Code.{Whole, SignalTaken, VectorTaken};
 ghost use Rattle.preamble.specs.Preamble.Loop.{Sized, Turned, Opens};
 
 use numbers::house::get_u32;
+use refusals::{Reason, Refusal};
+use std::ops::ControlFlow;
 
-// A record of the preamble and the place after it, or a refusal.
+// A record of the preamble and the place after it.
 #[derive(Clone, Copy)]
 pub enum Item {
     Signal {
@@ -26,7 +28,6 @@ pub enum Item {
         next: usize,
     },
     Sections(bool, usize),
-    Refused(u64, usize),
 }
 
 // The length of a record, its house kind included; 0 for an unknown kind.
@@ -43,7 +44,7 @@ fn item_length(kind: u8) -> usize
 
 fn signal_at(s: &[u8], at: usize) -> Item
     requires { at + 10 ≤ length s.now }
-    ensures { result ≡ signal_at s.now at }
+    ensures { Ok result ≡ signal_at s.now at }
 {
     Item::Signal {
         kind: s[at + 1],
@@ -55,7 +56,7 @@ fn signal_at(s: &[u8], at: usize) -> Item
 
 fn vector_at(s: &[u8], at: usize) -> Item
     requires { at + 14 ≤ length s.now }
-    ensures { result ≡ vector_at s.now at }
+    ensures { Ok result ≡ vector_at s.now at }
 {
     Item::Vector {
         min: get_u32(s, at + 1),
@@ -67,40 +68,40 @@ fn vector_at(s: &[u8], at: usize) -> Item
 }
 
 // "0 little or 1 big; else 17".
-fn flag_at(s: &[u8], at: usize) -> Item
+fn flag_at(s: &[u8], at: usize) -> Result<Item, Refusal>
     requires { at + 2 ≤ length s.now }
     ensures { result ≡ flag_at s.now at }
 {
     let flag = s[at + 1];
     if flag <= 1 {
-        return Item::Sections(flag == 1, at + 2);
+        return Ok(Item::Sections(flag == 1, at + 2));
     }
-    Item::Refused(17, at)
+    Err(Refusal(Reason::Kind, at))
 }
 
-fn whole_item(s: &[u8], at: usize) -> Item
+fn whole_item(s: &[u8], at: usize) -> Result<Item, Refusal>
     requires { Whole s.now at }
     ensures { result ≡ whole_item s.now at }
 {
     match s[at] {
-        1 => signal_at(s, at),
-        2 => vector_at(s, at),
+        1 => Ok(signal_at(s, at)),
+        2 => Ok(vector_at(s, at)),
         _ => flag_at(s, at),
     }
 }
 
-fn item_at(s: &[u8], at: usize) -> Item
+fn item_at(s: &[u8], at: usize) -> Result<Item, Refusal>
     ensures { result ≡ item_at s.now at }
 {
     if s.len() <= at {
-        return Item::Refused(7, s.len());
+        return Err(Refusal(Reason::InputEnds, s.len()));
     }
     let size = item_length(s[at]);
     if size == 0 {
-        return Item::Refused(17, at);
+        return Err(Refusal(Reason::Kind, at));
     }
     if s.len() - at < size {
-        return Item::Refused(7, at);
+        return Err(Refusal(Reason::InputEnds, at));
     }
     whole_item(s, at)
 }
@@ -113,23 +114,17 @@ struct Progress {
     at: usize,
 }
 
-// What the preamble says: the tables, the flag, the place of the first section byte.
-#[derive(Clone, Copy)]
-pub enum Opened {
-    Sections {
-        signals: usize,
-        vectors: usize,
-        big_endian: bool,
-        at: usize,
-    },
-    Refused(u64, usize),
+// What the preamble says: how many signals and vectors, the flag, the place of the first section byte.
+#[derive(Clone, Copy, PartialEq, Eq, Debug)]
+pub struct Opened {
+    pub signals: usize,
+    pub vectors: usize,
+    pub big_endian: bool,
+    pub at: usize,
 }
 
-#[derive(Clone, Copy)]
-enum Turn {
-    More(Progress),
-    Over(Opened),
-}
+// What one turn of the loop leads to.
+type Turn = ControlFlow<Result<Opened, Refusal>, Progress>;
 
 // "A 257th signal .. is 2 at that record".
 fn take_signal(
@@ -149,13 +144,13 @@ fn take_signal(
         kinds[n] = kind;
         refs[n] = reference;
         vecs[n] = vector;
-        return Turn::More(Progress {
+        return ControlFlow::Continue(Progress {
             signals: n + 1,
             vectors: p.vectors,
             at: next,
         });
     }
-    Turn::Over(Opened::Refused(2, p.at))
+    ControlFlow::Break(Err(Refusal(Reason::Lists, p.at)))
 }
 
 // ".. or 65th vector".
@@ -179,13 +174,13 @@ fn take_vector(
         maxs[n] = max;
         states[n] = state;
         vec_refs[n] = reference;
-        return Turn::More(Progress {
+        return ControlFlow::Continue(Progress {
             signals: p.signals,
             vectors: n + 1,
             at: next,
         });
     }
-    Turn::Over(Opened::Refused(2, p.at))
+    ControlFlow::Break(Err(Refusal(Reason::Lists, p.at)))
 }
 
 // One record.
@@ -203,28 +198,32 @@ fn one(
     ensures { Turned s.now (lists kinds.old refs.old vecs.old mins.old maxs.old states.old vec_refs.old) p (lists kinds.new refs.new vecs.new mins.new maxs.new states.new vec_refs.new) result }
 {
     match item_at(s, p.at) {
-        Item::Signal {
-            kind,
-            reference,
-            vector,
-            next,
-        } => take_signal(kinds, refs, vecs, p, kind, reference, vector, next),
-        Item::Vector {
-            min,
-            max,
-            state,
-            reference,
-            next,
-        } => take_vector(
+        Ok(
+            Item::Signal {
+                kind,
+                reference,
+                vector,
+                next,
+            },
+        ) => take_signal(kinds, refs, vecs, p, kind, reference, vector, next),
+        Ok(
+            Item::Vector {
+                min,
+                max,
+                state,
+                reference,
+                next,
+            },
+        ) => take_vector(
             mins, maxs, states, vec_refs, p, min, max, state, reference, next,
         ),
-        Item::Sections(big_endian, next) => Turn::Over(Opened::Sections {
+        Ok(Item::Sections(big_endian, next)) => ControlFlow::Break(Ok(Opened {
             signals: p.signals,
             vectors: p.vectors,
             big_endian,
             at: next,
-        }),
-        Item::Refused(number, place) => Turn::Over(Opened::Refused(number, place)),
+        })),
+        Err(refusal) => ControlFlow::Break(Err(refusal)),
     }
 }
 
@@ -238,7 +237,7 @@ pub fn read_preamble(
     maxs: &mut [u32; 64],
     states: &mut [u8; 64],
     vec_refs: &mut [u32; 64],
-) -> Opened
+) -> Result<Opened, Refusal>
     requires { Sized (lists kinds.old refs.old vecs.old mins.old maxs.old states.old vec_refs.old) }
     ensures { Opens s.now (lists kinds.new refs.new vecs.new mins.new maxs.new states.new vec_refs.new) result }
 {
@@ -249,10 +248,10 @@ pub fn read_preamble(
     };
     loop {
         match one(s, kinds, refs, vecs, mins, maxs, states, vec_refs, p) {
-            Turn::More(q) => {
+            ControlFlow::Continue(q) => {
                 p = q;
             }
-            Turn::Over(o) => {
+            ControlFlow::Break(o) => {
                 return o;
             }
         }

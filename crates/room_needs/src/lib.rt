@@ -4,14 +4,14 @@
 ghost use Rattle.std.specs.Prelude.{◌≡◌, ◌+◌, ◌-◌, ◌≤◌};
 ghost use Rattle.states.specs.Kind.{bytes_required};
 ghost use Rattle.states.specs.declared.States.TheVariants.{Two};
-ghost use Rattle.tables.specs.Lists.{lists};
 ghost use Rattle.tables.specs.Layout.{layout_of, total_bytes};
 ghost use Rattle.tables.specs.Checks.{check6};
 ghost use Rattle.tables.specs.Good.{Sized, Ranged, Named};
 
+use refusals::{Reason, Refusal};
 use slices::usize_of_u32;
 use states::States;
-use tables::{Check, unless};
+use tables::{Check, Tables, unless};
 
 // How many ids a range has.
 pub fn width(min: u32, max: u32) -> usize
@@ -38,45 +38,27 @@ fn flag_bytes(v: usize) -> usize
 }
 
 // The bytes of working room that the tables need.
-pub fn total_bytes(
-    kinds: &[u8],
-    refs: &[u32],
-    vecs: &[u32],
-    mins: &[u32],
-    maxs: &[u32],
-    states: &[u8],
-    vec_refs: &[u32],
-) -> usize
-    requires { Sized (lists kinds.now refs.now vecs.now mins.now maxs.now states.now vec_refs.now) × Ranged (lists kinds.now refs.now vecs.now mins.now maxs.now states.now vec_refs.now) × Named (lists kinds.now refs.now vecs.now mins.now maxs.now states.now vec_refs.now) }
-    ensures { result ≡ total_bytes (layout_of (lists kinds.now refs.now vecs.now mins.now maxs.now states.now vec_refs.now)) }
+pub fn total_bytes(tables: &Tables) -> usize
+    requires { Sized tables.now × Ranged tables.now × Named tables.now }
+    ensures { result ≡ total_bytes (layout_of tables.now) }
 {
     let mut sum: usize = 0;
-    let mut v: usize = 0;
-    while v < mins.len() {
-        sum += chunk_bytes(States::of(states[v]), width(mins[v], maxs[v]));
-        v += 1;
+    for v in 0..tables.mins.len() {
+        sum += chunk_bytes(
+            States::of(tables.states[v]),
+            width(tables.mins[v], tables.maxs[v]),
+        );
     }
-    sum + 2 * flag_bytes(mins.len())
+    sum + 2 * flag_bytes(tables.mins.len())
 }
 
 // Check 6.
-pub fn check_room(
-    kinds: &[u8],
-    refs: &[u32],
-    vecs: &[u32],
-    mins: &[u32],
-    maxs: &[u32],
-    states: &[u8],
-    vec_refs: &[u32],
-    room: usize,
-    list: usize,
-) -> Check
-    requires { Sized (lists kinds.now refs.now vecs.now mins.now maxs.now states.now vec_refs.now) × Ranged (lists kinds.now refs.now vecs.now mins.now maxs.now states.now vec_refs.now) × Named (lists kinds.now refs.now vecs.now mins.now maxs.now states.now vec_refs.now) }
-    ensures { result ≡ check6 (lists kinds.now refs.now vecs.now mins.now maxs.now states.now vec_refs.now) room list }
+pub fn check_room(tables: &Tables, room: usize, list: usize) -> Check
+    requires { Sized tables.now × Ranged tables.now × Named tables.now }
+    ensures { result ≡ check6 tables.now room list }
 {
     unless(
-        (total_bytes(kinds, refs, vecs, mins, maxs, states, vec_refs) <= room)
-            & (mins.len() <= list),
-        6,
+        (total_bytes(tables) <= room) & (tables.mins.len() <= list),
+        Refusal(Reason::RoomShort, 0),
     )
 }

@@ -3,8 +3,7 @@
 use Rattle.std.specs.Prelude.{ℕ, zero, suc, Bool, true, not, cond, ◌&&◌, ◌||◌, length, leb, eqb}
 use Rattle.tables.specs.Lists.{Lists, nth, signals, vectors}
 use Rattle.tables.specs.Layout.{layout_of, total_bytes}
-use Rattle.tables.specs.declared.Check.{Check}
-use Rattle.tables.specs.declared.Check.TheVariants.{Passed, Refused}
+use Rattle.tables.specs.Check.{Check, Passed, Refused}
 pub mod Laws
 pub mod Loops
 

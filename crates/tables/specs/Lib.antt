@@ -1,4 +1,5 @@
-pub mod Lists
-pub mod Layout
+pub mod Check
 pub mod Checks
 pub mod Good
+pub mod Layout
+pub mod Lists

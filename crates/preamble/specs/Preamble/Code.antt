@@ -6,12 +6,11 @@ use borrow.Author.Tests.{lt-leb, le-leb, eq-eqb, ne_eqb, leb-true, eqb-true, eqb
 use Rattle.slices.specs.Choice.{cond_ind}
 use Rattle.slices.specs.Splice.{part}
 use Rattle.numbers.specs.Fixed.{big}
-use Rattle.preamble.specs.declared.Item.{Item}
-use Rattle.preamble.specs.declared.Item.TheVariants.{Signal, Vector, Sections, Refused}
+use Rattle.preamble.specs.Item.{ItemFound, Signal, Vector, Sections, Refused}
 use Rattle.preamble.specs.declared.Progress.{Progress}
-use Rattle.preamble.specs.declared.Opened.TheVariants as told
-use Rattle.preamble.specs.declared.Turn.{Turn}
-use Rattle.preamble.specs.declared.Turn.TheVariants.{More, Over}
+use Rattle.preamble.specs.Opened as told
+use Rattle.preamble.specs.Going.{Turn}
+use Rattle.std.proofs.Common.{Continue, Break}
 use Rattle.preamble.specs.Preamble.{item_length, signal_at, vector_at, flag_at, whole_item, item_at}
 
 -- ---- a record
@@ -55,7 +54,7 @@ module _ (s : List ℕ) (at : ℕ) where
   unfolding flag_at
   flag_bad h = rw (lt-leb (get_or s (at + 1) 0) 1 h)
 
-  module _ {r : Item} where
+  module _ {r : ItemFound} where
     pub whole_signal : get_or s at 0 ≡ 1 → r ≡ signal_at s at → r ≡ whole_item s at
     unfolding whole_item
     whole_signal e p = rw (eq-eqb (get_or s at 0) 1 e) p
@@ -102,7 +101,7 @@ module _ (s : List ℕ) (at : ℕ) where
       unfolding item_at
       item_short o = rw (lt-leb (length s) at h, ← k, ne_eqb size 0 n, lt-leb (at + size) (length s) (omega arith))
 
-      pub item_whole : size ≤ length s - at → {r : Item} → r ≡ whole_item s at → r ≡ item_at s at
+      pub item_whole : size ≤ length s - at → {r : ItemFound} → r ≡ whole_item s at → r ≡ item_at s at
       unfolding item_at
       item_whole o p = p ∙ rw (lt-leb (length s) at h, ← k, ne_eqb size 0 n, le-leb (at + size) (length s) (omega arith))
 
@@ -110,7 +109,7 @@ module _ (s : List ℕ) (at : ℕ) where
       item_stands o = record { known = omega (arith, n); whole = omega arith }
 
 -- where the next record starts
-abbrev pub After : List ℕ → ℕ → Item → Type 0
+abbrev pub After : List ℕ → ℕ → ItemFound → Type 0
 After s i (Signal k r v j) = (i < j) × (j ≤ length s)
 After s i (Vector a b c r j) = (i < j) × (j ≤ length s)
 After s i (Sections f j) = (i < j) × (j ≤ length s)
@@ -133,20 +132,20 @@ after s i =
 -- ---- a signal or a vector, in its arrays
 
 abbrev pub SignalComes : (p : Progress) (k r v j : ℕ) (kinds refs vecs kinds' refs' vecs' : List ℕ) → Turn → Type 0
-SignalComes p k r v j kinds refs vecs kinds' refs' vecs' (More q) =
+SignalComes p k r v j kinds refs vecs kinds' refs' vecs' (Continue q) =
     (p.signals < 256) × (q ≡ record { signals = p.signals + 1; vectors = p.vectors; at = j })
     × (kinds' ≡ set kinds p.signals k) × (refs' ≡ set refs p.signals r) × (vecs' ≡ set vecs p.signals v)
-SignalComes p k r v j kinds refs vecs kinds' refs' vecs' (Over o) =
+SignalComes p k r v j kinds refs vecs kinds' refs' vecs' (Break o) =
     (256 ≤ p.signals) × (o ≡ told.Refused 2 p.at) × (kinds' ≡ kinds) × (refs' ≡ refs) × (vecs' ≡ vecs)
 
 pub record SignalTaken (p : Progress) (k r v j : ℕ) (kinds refs vecs kinds' refs' vecs' : List ℕ) (t : Turn) : Type 0 where
   pub comes : SignalComes p k r v j kinds refs vecs kinds' refs' vecs' t
 
 abbrev pub VectorComes : (p : Progress) (a b c r j : ℕ) (mins maxs states refs mins' maxs' states' refs' : List ℕ) → Turn → Type 0
-VectorComes p a b c r j mins maxs states refs mins' maxs' states' refs' (More q) =
+VectorComes p a b c r j mins maxs states refs mins' maxs' states' refs' (Continue q) =
     (p.vectors < 64) × (q ≡ record { signals = p.signals; vectors = p.vectors + 1; at = j })
     × (mins' ≡ set mins p.vectors a) × (maxs' ≡ set maxs p.vectors b) × (states' ≡ set states p.vectors c) × (refs' ≡ set refs p.vectors r)
-VectorComes p a b c r j mins maxs states refs mins' maxs' states' refs' (Over o) =
+VectorComes p a b c r j mins maxs states refs mins' maxs' states' refs' (Break o) =
     (64 ≤ p.vectors) × (o ≡ told.Refused 2 p.at) × (mins' ≡ mins) × (maxs' ≡ maxs) × (states' ≡ states) × (refs' ≡ refs)
 
 pub record VectorTaken (p : Progress) (a b c r j : ℕ) (mins maxs states refs mins' maxs' states' refs' : List ℕ) (t : Turn) : Type 0 where

@@ -1,6 +1,6 @@
 -- How far the preamble has been read, and what the proofs of its loop search.
 -- Assumes nothing.
-use Rattle.std.specs.Prelude.{◌≡◌, refl, Bool, List, [], ◌∷◌, ◌++◌, take, set}
+use Rattle.std.specs.Prelude.{◌≡◌, refl, Bool, List, [], ◌∷◌, ◌++◌, take, set, Ok}
 use Rattle.std.proofs.Math.Path.{sym}
 use Rattle.std.proofs.Common.{subst, ◌∙◌, add-one, take-suc-set}
 use Prim.Native.Nat.{ℕ, zero, suc, ◌+◌, ◌-◌, ◌≤◌, ◌<◌}
@@ -9,13 +9,12 @@ use borrow.Author.Tests.{lt-ltb, le-ltb}
 use Rattle.std.proofs.Math.ListN.{length, length-set}
 use Rattle.std.proofs.Math.Seq.{length-take-le}
 use Rattle.tables.specs.Lists.{Lists, lists, signals, vectors}
-use Rattle.preamble.specs.declared.Item.{Item}
-use Rattle.preamble.specs.declared.Item.TheVariants.{Signal, Vector, Sections, Refused}
+use Rattle.preamble.specs.Item.{ItemFound, Signal, Vector, Sections, Refused}
 use Rattle.preamble.specs.declared.Progress.{Progress}
-use Rattle.preamble.specs.declared.Opened.{Opened}
-use Rattle.preamble.specs.declared.Opened.TheVariants as told
-use Rattle.preamble.specs.declared.Turn.{Turn}
-use Rattle.preamble.specs.declared.Turn.TheVariants.{More, Over}
+use Rattle.preamble.specs.Opened.{OpenedFound}
+use Rattle.preamble.specs.Opened as told
+use Rattle.preamble.specs.Going.{Turn}
+use Rattle.std.proofs.Common.{Continue, Break}
 use Rattle.preamble.specs.Preamble.{item_at, opens, refused, one_item, opening, preamble}
 use Rattle.preamble.specs.Preamble.Code.{After, after, item_end, SignalComes, SignalTaken, VectorComes, VectorTaken}
 
@@ -44,18 +43,18 @@ pub record On (s : List ℕ) (m : Lists) (p : Progress) : Type 0 where
 abbrev pub Going : (s kinds refs vecs mins maxs states vec_refs : List ℕ) → Progress → Type 0
 Going s kinds refs vecs mins maxs states vec_refs p = On s (lists kinds refs vecs mins maxs states vec_refs) p
 
-abbrev pub OpensSays : (s : List ℕ) (m : Lists) → Opened → Type 0
-OpensSays s m (told.Sections n v flag at) = (preamble s ≡ opens (up_to m n v) flag at) × (n ≤ 256) × (v ≤ 64) × (at ≤ length s)
+abbrev pub OpensSays : (s : List ℕ) (m : Lists) → OpenedFound → Type 0
+OpensSays s m (Ok o) = (preamble s ≡ opens (up_to m o.signals o.vectors) o.big_endian o.at) × (o.signals ≤ 256) × (o.vectors ≤ 64) × (o.at ≤ length s)
 OpensSays s m (told.Refused n p) = preamble s ≡ refused n p
 
 -- an answer and the tables are the preamble's
-pub record Opens (s : List ℕ) (m : Lists) (o : Opened) : Type 0 where
+pub record Opens (s : List ℕ) (m : Lists) (o : OpenedFound) : Type 0 where
   pub says : OpensSays s m o
   pub sized : Sized m
 
 abbrev pub Comes : (s : List ℕ) (p : Progress) (m : Lists) → Turn → Type 0
-Comes s p m (More q) = On s m q × (p.at < q.at) × (q.at ≤ length s)
-Comes s p m (Over o) = Opens s m o
+Comes s p m (Continue q) = On s m q × (p.at < q.at) × (q.at ≤ length s)
+Comes s p m (Break o) = Opens s m o
 
 -- after a turn it has come further, or the answer is the preamble's
 pub record Turned (s : List ℕ) (m : Lists) (p : Progress) (m' : Lists) (t : Turn) : Type 0 where
@@ -77,14 +76,14 @@ module _ {s : List ℕ} {m : Lists} {p : Progress} (o : On s m p) where
 one_more : (l : List ℕ) (n k : ℕ) → n < length l → take (n + 1) (set l n k) ≡ take n l ++ (k ∷ [])
 one_more l n k h = rw (add-one n) (take-suc-set l n k h)
 
-module _ (s : List ℕ) (p : Progress) {n : Item} (u : n ≡ item_at s p.at) where
-  next : (i : Item) → n ≡ i → After s p.at i
+module _ (s : List ℕ) (p : Progress) {n : ItemFound} (u : n ≡ item_at s p.at) where
+  next : (i : ItemFound) → n ≡ i → After s p.at i
   next i e = subst (After s p.at) (sym u ∙ e) (after s p.at)
 
   module _ {k r v j : ℕ} (e : n ≡ Signal k r v j) (kinds refs vecs kinds' refs' vecs' mins maxs states vec_refs : List ℕ) where
     signal_go : (t : Turn) → SignalComes p k r v j kinds refs vecs kinds' refs' vecs' t → On s (lists kinds refs vecs mins maxs states vec_refs) p → Comes s p (lists kinds' refs' vecs' mins maxs states vec_refs) t
     unfolding one_item signals
-    signal_go (More q) c o =
+    signal_go (Continue q) c o =
         let z = o.sized in
         let size : length (take p.signals kinds) ≡ p.signals = length-take-le p.signals kinds (omega (arith, z.kinds, o.few_signals)) in
         let w = rw (sym u ∙ e, size, lt-ltb p.signals 256 c.0) at (once o).2 in
@@ -101,7 +100,7 @@ module _ (s : List ℕ) (p : Progress) {n : Item} (u : n ≡ item_at s p.at) whe
           a.0,
           a.1,
         )
-    signal_go (Over a) c o =
+    signal_go (Break a) c o =
         let w = rw (sym u ∙ e, length-take-le p.signals kinds (omega (arith, o.sized.kinds, o.few_signals)), le-ltb p.signals 256 c.0) at (once o).2 in
         rw (c.1, c.2, c.3, c.4) (record { says = sym w; sized = o.sized })
 
@@ -109,7 +108,7 @@ module _ (s : List ℕ) (p : Progress) {n : Item} (u : n ≡ item_at s p.at) whe
     vector_go : (t : Turn) → VectorComes p a b c r j mins maxs states vec_refs mins' maxs' states' vecRefs' t → On s (lists kinds refs vecs mins maxs states vec_refs) p
         → Comes s p (lists kinds refs vecs mins' maxs' states' vecRefs') t
     unfolding one_item vectors
-    vector_go (More q) d o =
+    vector_go (Continue q) d o =
         let z = o.sized in
         let size : length (take p.vectors mins) ≡ p.vectors = length-take-le p.vectors mins (omega (arith, z.mins, o.few_vectors)) in
         let w = rw (sym u ∙ e, size, lt-ltb p.vectors 64 d.0) at (once o).2 in
@@ -126,7 +125,7 @@ module _ (s : List ℕ) (p : Progress) {n : Item} (u : n ≡ item_at s p.at) whe
           f.0,
           f.1,
         )
-    vector_go (Over q) d o =
+    vector_go (Break q) d o =
         let w = rw (sym u ∙ e, length-take-le p.vectors mins (omega (arith, o.sized.mins, o.few_vectors)), le-ltb p.vectors 64 d.0) at (once o).2 in
         rw (d.1, d.2, d.3, d.4, d.5) (record { says = sym w; sized = o.sized })
 
@@ -140,12 +139,12 @@ module _ (s : List ℕ) (p : Progress) {n : Item} (u : n ≡ item_at s p.at) whe
     turned_vector e {mins'} {maxs'} {states'} {vecRefs'} {t} a = record { comes = λ o. vector_go e kinds refs vecs mins maxs states vec_refs mins' maxs' states' vecRefs' t a.comes o }
 
   module _ {m : Lists} where
-    pub turned_sections : {flag : Bool} {j : ℕ} → n ≡ Sections flag j → Turned s m p m (Over (told.Sections p.signals p.vectors flag j))
+    pub turned_sections : {flag : Bool} {j : ℕ} → n ≡ Sections flag j → Turned s m p m (Break (told.Sections p.signals p.vectors flag j))
     unfolding one_item
     turned_sections {flag} {j} e =
         record { comes = λ o. record { says = (sym (rw (sym u ∙ e) at (once o).2), o.few_signals, o.few_vectors, (next (Sections flag j) e).1); sized = o.sized } }
 
-    pub turned_refused : {a b : ℕ} → n ≡ Refused a b → Turned s m p m (Over (told.Refused a b))
+    pub turned_refused : {a b : ℕ} → n ≡ Refused a b → Turned s m p m (Break (told.Refused a b))
     unfolding one_item
     turned_refused e = record { comes = λ o. record { says = sym (rw (sym u ∙ e) at (once o).2); sized = o.sized } }
 
@@ -154,13 +153,13 @@ unfolding preamble
 on_start s z = record { fuel = length s; enough = omega arith; left = refl; few_signals = omega arith; few_vectors = omega arith; sized = z }
 
 module _ {s : List ℕ} {m m' : Lists} {p : Progress} {t : Turn} (a : Turned s m p m' t) (o : On s m p) where
-  pub on_more : {q : Progress} → t ≡ More q → On s m' q
+  pub on_more : {q : Progress} → t ≡ Continue q → On s m' q
   on_more e = (subst (Comes s p m') e (a.comes o)).0
 
-  pub less : {q : Progress} → t ≡ More q → length s - q.at < length s - p.at
+  pub less : {q : Progress} → t ≡ Continue q → length s - q.at < length s - p.at
   less e = let c = subst (Comes s p m') e (a.comes o) in omega (arith, c.1, c.2)
 
-  pub answered : {r : Opened} → t ≡ Over r → Opens s m' r
+  pub answered : {r : OpenedFound} → t ≡ Break r → Opens s m' r
   answered e = subst (Comes s p m') e (a.comes o)
 
 pub ruleset one_laws = (turned_signal, turned_vector, turned_sections, turned_refused)

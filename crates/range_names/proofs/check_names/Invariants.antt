@@ -1,10 +1,5 @@
--- Written by tools/proof-answers from proofs.map.
-use Rattle.std.proofs.Common.{◌-◌, length}
 use Rattle.tables.specs.Checks.Loops.{Lowest}
 use Rattle.range_names.proofs.check_names.Given as goal
 
 abbrev pub invariant-loop-v : goal.invariant-loop-v
-invariant-loop-v l = Lowest l.kinds l.refs l.vecs l.mins l.maxs l.states l.vec_refs l.v l.best
-
-abbrev pub decreases-loop-v : goal.decreases-loop-v
-decreases-loop-v l = length l.mins - l.v
+invariant-loop-v l = Lowest l.tables l.v l.best

@@ -16,7 +16,7 @@ use Rattle.tables.specs.Layout.{layout_of}
 use Rattle.tables.specs.Layout.Laws.{width_is, state_is}
 use Rattle.tables.specs.Checks.{within_limit, equal_lengths, good_vector, holds, suits, good_number, good_signal, names_all, check1, check2, check3, check4, check5, check6, checks}
 use Rattle.tables.specs.Checks.Laws.{nth_at, nth_less, both, unless_passed, then_passed, lowest_passed}
-use Rattle.tables.specs.declared.Check.TheVariants.{Passed}
+use Rattle.tables.specs.Check.{Passed}
 use Rattle.tables.specs.Good.Widths.{widths_fit, starts_fit}
 use Rattle.tables.specs.Good.{Limits, Sized, Vector, Ranged, Bit, Signals, Named, Good}
 

@@ -1,7 +1,6 @@
--- Written by tools/proof-answers from proofs.map.
 use Rattle.std.proofs.Common.{rules}
 use Rattle.tables.specs.Checks.Loops.{pass_laws}
-use Rattle.tables.proofs.check_vectors.Goals as goal
+use Rattle.tables.proofs.Tables.check_vectors.Goals as goal
 
 pub returns-then-not-good_vector : goal.returns-then-not-good_vector
 returns-then-not-good_vector c = search (pass_laws, rules)
