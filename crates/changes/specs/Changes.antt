@@ -7,8 +7,7 @@ use Rattle.tables.specs.Lists.{Lists, nth, signals}
 use Rattle.values.specs.Value.{on_read, narrow}
 use Rattle.rules.specs.Gather.{time, write, step_end}
 use Rattle.rules.specs.Scan.{Scan, say, done, fault}
-use Rattle.changes.specs.declared.Change.{Change}
-use Rattle.changes.specs.declared.Change.TheVariants.{Time, Write, StepEnd, End, Bad}
+use Rattle.changes.specs.Change.{ChangeFound, Time, Write, StepEnd, End, Bad}
 pub mod Whole
 pub mod Record
 pub mod Found
@@ -21,33 +20,33 @@ record_length k = cond (eqb k 1) 9 (cond (eqb k 2) 6 (cond (eqb k 3) 13 (cond (e
 
 module _ (t : Lists) (s : List ℕ) where
   -- "19: write doesn't suit the signal's kind: record": 2 for kinds 0..4, its value "bounded and mapped as in sections"; 3 for 5 and 6, "the integer or the real's bits"
-  unfoldable pub written : (k id i : ℕ) → Change
+  unfoldable pub written : (k id i : ℕ) → ChangeFound
   written k id i =
       cond (eqb k 2)
       (cond (leb (nth t.kinds id) 4) (on_read (narrow (nth t.kinds id) s (i + 5)) Bad (λ v j. Write id v j)) (Bad 19 i))
       (cond (leb 5 (nth t.kinds id)) (Write id (big (part s (i + 5) 8)) (i + 13)) (Bad 19 i))
 
   -- "13: id is 0 or past n: record"
-  unfoldable pub write_record : (k id i : ℕ) → Change
+  unfoldable pub write_record : (k id i : ℕ) → ChangeFound
   write_record k id i = cond (leb 1 id && leb id (signals t)) (written k id i) (Bad 13 i)
 
   -- "18: time inside an open step; write or step end outside one: record"
-  unfoldable pub in_order : Bool → (k i : ℕ) → Change
+  unfoldable pub in_order : Bool → (k i : ℕ) → ChangeFound
   in_order inside k i =
       cond (eqb k 1) (cond inside (Bad 18 i) (Time (big (part s (i + 1) 8)) (i + 9)))
       (cond inside (cond (eqb k 4) (StepEnd (i + 1)) (write_record k (big (part s (i + 1) 4)) i)) (Bad 18 i))
 
   -- "In a record: 17, 7, 18, 13, 19, 14"
-  unfoldable pub change_record : Bool → ℕ → Change
+  unfoldable pub change_record : Bool → ℕ → ChangeFound
   change_record inside i =
       cond (eqb (record_length (get_or s i 0)) 0) (Bad 17 i)
       (cond (leb (i + record_length (get_or s i 0)) (length s)) (in_order inside (get_or s i 0) i) (Bad 7 i))
 
   -- "Input ends only between steps; empty input is good."
-  unfoldable pub next_change : Bool → ℕ → Change
+  unfoldable pub next_change : Bool → ℕ → ChangeFound
   next_change inside i = cond (leb (length s) i) (cond inside (Bad 7 i) (End i)) (change_record inside i)
 
-  unfoldable pub one_record : Change → ℕ → (Bool → ℕ → Scan) → Scan
+  unfoldable pub one_record : ChangeFound → ℕ → (Bool → ℕ → Scan) → Scan
   one_record (Time u j) i more = say (time u) j (more true j)
   one_record (Write id v j) i more = say (write id v i) j (more true j)
   one_record (StepEnd j) i more = say step_end j (more false j)

@@ -11,17 +11,17 @@ ghost use Rattle.changes.specs.Changes.Whole.{Whole, Writes};
 ghost use Rattle.changes.specs.Changes.Items.{record_item, of_record};
 
 use numbers::house::{get_u32, get_u64};
+use refusals::{Reason, Refusal};
 use section_heads::{Item, Phase, Said, goes, standing};
 use values::{Read, read_narrow};
 
-// What a change record says and the place after it, or the input's end between steps, or a refusal.
-#[derive(Clone, Copy)]
+// What a change record says and the place after it, or the input's end between steps.
+#[derive(Clone, Copy, PartialEq, Eq, Debug)]
 pub enum Change {
     Time(u64, usize),
     Write { id: usize, value: u64, next: usize },
     StepEnd(usize),
     End(usize),
-    Bad(u64, usize),
 }
 
 // The length of a record by its kind; 0 for a kind that is unknown.
@@ -60,45 +60,43 @@ fn id_at(s: &[u8], at: usize) -> usize
 }
 
 // A byte write to a signal: 19, then 14.
-fn byte_write(kinds: &[u8], s: &[u8], id: usize, at: usize) -> Change
+fn byte_write(kinds: &[u8], s: &[u8], id: usize, at: usize) -> Result<Change, Refusal>
     requires { (1 ≤ id) × (id ≤ length kinds.now) × (at + 6 ≤ length s.now) }
     ensures { result ≡ written (of_kinds kinds.now) s.now 2 id at }
 {
     let kind = signal_kind(kinds, id);
     let value_at = at + 5;
     if 4 < kind {
-        return Change::Bad(19, at);
+        return Err(Refusal(Reason::Unsuited, at));
     }
-    match read_narrow(kind, s, value_at) {
-        Read::Value(value, next) => Change::Write { id, value, next },
-        Read::Bad(number, place) => Change::Bad(number, place),
-    }
+    let (value, next) = read_narrow(kind, s, value_at)?;
+    Ok(Change::Write { id, value, next })
 }
 
 // A wide write to a signal: 19.
-fn wide_write(kinds: &[u8], s: &[u8], id: usize, at: usize) -> Change
+fn wide_write(kinds: &[u8], s: &[u8], id: usize, at: usize) -> Result<Change, Refusal>
     requires { (1 ≤ id) × (id ≤ length kinds.now) × (at + 13 ≤ length s.now) }
     ensures { result ≡ written (of_kinds kinds.now) s.now 3 id at }
 {
     let kind = signal_kind(kinds, id);
     if 5 <= kind {
-        Change::Write {
+        Ok(Change::Write {
             id,
             value: get_u64(s, at + 5),
             next: at + 13,
-        }
+        })
     } else {
-        Change::Bad(19, at)
+        Err(Refusal(Reason::Unsuited, at))
     }
 }
 
 // A write: 13, then what its kind asks.
-fn write_record(kinds: &[u8], s: &[u8], kind: u8, id: usize, at: usize) -> Change
+fn write_record(kinds: &[u8], s: &[u8], kind: u8, id: usize, at: usize) -> Result<Change, Refusal>
     requires { Writes s.now kind at }
     ensures { result ≡ write_record (of_kinds kinds.now) s.now kind id at }
 {
     if kinds.len() < id {
-        return Change::Bad(13, at);
+        return Err(Refusal(Reason::Id, at));
     }
     if 1 <= id {
         if kind == 2 {
@@ -106,54 +104,54 @@ fn write_record(kinds: &[u8], s: &[u8], kind: u8, id: usize, at: usize) -> Chang
         }
         return wide_write(kinds, s, id, at);
     }
-    Change::Bad(13, at)
+    Err(Refusal(Reason::Id, at))
 }
 
 // A whole record of a known kind: 18, then what its kind asks.
-fn in_order(kinds: &[u8], s: &[u8], inside: bool, kind: u8, at: usize) -> Change
+fn in_order(kinds: &[u8], s: &[u8], inside: bool, kind: u8, at: usize) -> Result<Change, Refusal>
     requires { Whole s.now kind at }
     ensures { result ≡ in_order (of_kinds kinds.now) s.now inside kind at }
 {
     if kind == 1 {
         if inside {
-            return Change::Bad(18, at);
+            return Err(Refusal(Reason::Order, at));
         }
-        return Change::Time(get_u64(s, at + 1), at + 9);
+        return Ok(Change::Time(get_u64(s, at + 1), at + 9));
     }
     if inside {
         if kind == 4 {
-            return Change::StepEnd(at + 1);
+            return Ok(Change::StepEnd(at + 1));
         }
         return write_record(kinds, s, kind, id_at(s, at + 1), at);
     }
-    Change::Bad(18, at)
+    Err(Refusal(Reason::Order, at))
 }
 
 // The record at a place within the input: 17, then 7, then the rest.
-fn change_record(kinds: &[u8], s: &[u8], inside: bool, at: usize) -> Change
+fn change_record(kinds: &[u8], s: &[u8], inside: bool, at: usize) -> Result<Change, Refusal>
     requires { at < length s.now }
     ensures { result ≡ change_record (of_kinds kinds.now) s.now inside at }
 {
     let kind = s[at];
     let n = record_length(kind);
     if n == 0 {
-        return Change::Bad(17, at);
+        return Err(Refusal(Reason::Kind, at));
     }
     if n <= s.len() - at {
         return in_order(kinds, s, inside, kind, at);
     }
-    Change::Bad(7, at)
+    Err(Refusal(Reason::InputEnds, at))
 }
 
 // What stands at a place.
-pub fn next_change(kinds: &[u8], s: &[u8], inside: bool, at: usize) -> Change
+pub fn next_change(kinds: &[u8], s: &[u8], inside: bool, at: usize) -> Result<Change, Refusal>
     ensures { result ≡ next_change (of_kinds kinds.now) s.now inside at }
 {
     if s.len() <= at {
         if inside {
-            return Change::Bad(7, at);
+            return Err(Refusal(Reason::InputEnds, at));
         }
-        return Change::End(at);
+        return Ok(Change::End(at));
     }
     change_record(kinds, s, inside, at)
 }
@@ -170,10 +168,10 @@ pub fn record_item(kinds: &[u8], s: &[u8], inside: bool, at: usize) -> Item
     ensures { result ≡ record_item kinds.now s.now inside at }
 {
     match next_change(kinds, s, inside, at) {
-        Change::Time(u, next) => item_of(next, Said::Time(u), 0),
-        Change::Write { id, value, next } => item_of(next, Said::Write { value, id }, id),
-        Change::StepEnd(next) => item_of(next, Said::StepEnd, 0),
-        Change::End(next) => item_of(next, Said::Over, 0),
-        Change::Bad(number, place) => item_of(place, Said::Bad(number), 0),
+        Ok(Change::Time(u, next)) => item_of(next, Said::Time(u), 0),
+        Ok(Change::Write { id, value, next }) => item_of(next, Said::Write { value, id }, id),
+        Ok(Change::StepEnd(next)) => item_of(next, Said::StepEnd, 0),
+        Ok(Change::End(next)) => item_of(next, Said::Over, 0),
+        Err(refusal) => item_of(refusal.place(), Said::Bad(refusal), 0),
     }
 }

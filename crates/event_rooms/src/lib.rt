@@ -18,13 +18,6 @@ pub struct Counts {
     pub steps: u64,
 }
 
-#[derive(Clone, Copy)]
-pub enum Put {
-    Done(Counts),
-    // "Next event doesn't fit event or value room".
-    Full,
-}
-
 // Whether a record and a value of so many bytes fit what is left of the two rooms.
 pub fn room_for(
     events_len: usize,
@@ -70,15 +63,15 @@ pub fn append_value(
 }
 
 // Appends a time, where it fits.
-pub fn time_change(events: &mut [u8], counts: Counts, time: u64) -> Put
+pub fn time_change(events: &mut [u8], counts: Counts, time: u64) -> Option<Counts>
     requires { EventsRoom events.old counts }
     ensures { (values : List ℕ) → Appends (Event.time time ∷ []) events.old values counts events.new values result }
 {
     if !room_for(events.len(), counts.values, counts, 9, 0) {
-        return Put::Full;
+        return None;
     }
     put_time(events, counts.events, time);
-    Put::Done(Counts {
+    Some(Counts {
         events: counts.events + 9,
         values: counts.values,
         steps: counts.steps + 1,
@@ -86,15 +79,15 @@ pub fn time_change(events: &mut [u8], counts: Counts, time: u64) -> Put
 }
 
 // Appends a real, where it fits.
-pub fn real_change(events: &mut [u8], counts: Counts, reference: u32, bits: u64) -> Put
+pub fn real_change(events: &mut [u8], counts: Counts, reference: u32, bits: u64) -> Option<Counts>
     requires { EventsRoom events.old counts }
     ensures { (values : List ℕ) → Appends (Event.real reference bits ∷ []) events.old values counts events.new values result }
 {
     if !room_for(events.len(), counts.values, counts, 13, 0) {
-        return Put::Full;
+        return None;
     }
     put_real(events, counts.events, reference, bits);
-    Put::Done(Counts {
+    Some(Counts {
         events: counts.events + 13,
         values: counts.values,
         steps: counts.steps,
@@ -109,14 +102,14 @@ pub fn raw_value_change(
     states: States,
     reference: u32,
     bytes: &[u8],
-) -> Put
+) -> Option<Counts>
     requires { EventsRoom events.old counts × ValuesRoom values.old counts }
     ensures { (vector : ℕ) → Appends (Event.value vector states reference bytes.now ∷ []) events.old values.old counts events.new values.new result }
 {
     let n = bytes.len();
     if !room_for(events.len(), values.len(), counts, 13, n) {
-        return Put::Full;
+        return None;
     }
     write_at(values, counts.values, bytes);
-    Put::Done(append_value(events, counts, states, reference, n))
+    Some(append_value(events, counts, states, reference, n))
 }

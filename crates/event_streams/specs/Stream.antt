@@ -6,8 +6,7 @@ use Rattle.numbers.specs.Fixed.{big}
 use Rattle.states.specs.declared.States.TheVariants.{Two, Nine}
 use Rattle.records.specs.declared.Record.{Record}
 use Rattle.records.specs.declared.Record.TheVariants.{Time, Value, Real}
-use Rattle.event_streams.specs.declared.Next.{Next}
-use Rattle.event_streams.specs.declared.Next.TheVariants.{Event, End, Bad}
+use Rattle.event_streams.specs.Next.{Next, Event, End, Bad}
 pub mod Code
 
 -- "a body whose length the kind fixes": the length of an event record, its kind byte included; 0 for "unknown house kind"

@@ -9,16 +9,12 @@ ghost use Rattle.event_streams.specs.Stream.Code.{Whole, Known};
 
 use numbers::house::{get_u32, get_u64};
 use records::Record;
+use refusals::{Reason, Refusal};
 use slices::usize_of_u32;
 use states::States;
 
-// What stands at a place of an event stream: a record and the place after it, or the stream's end, or a refusal.
-#[derive(Clone, Copy)]
-pub enum Next {
-    Event(Record, usize),
-    End,
-    Bad(u64, usize),
-}
+// What stands at a place of an event stream: a record and the place after it, or the stream's end.
+pub type Next = Result<Option<(Record, usize)>, Refusal>;
 
 // "A body whose length the kind fixes": the length of a record, its kind byte included; 0 for an unknown kind.
 fn event_length(kind: u8) -> usize
@@ -96,11 +92,11 @@ fn judge(values: usize, begun: bool, event: Record, at: usize, next: usize) -> N
 {
     if may_stand(begun, event) {
         if in_values(values, event) {
-            return Next::Event(event, next);
+            return Ok(Some((event, next)));
         }
-        return Next::Bad(20, at);
+        return Err(Refusal(Reason::PastValues, at));
     }
-    Next::Bad(18, at)
+    Err(Refusal(Reason::Order, at))
 }
 
 fn known_event(s: &[u8], values: usize, begun: bool, at: usize, size: usize) -> Next
@@ -108,7 +104,7 @@ fn known_event(s: &[u8], values: usize, begun: bool, at: usize, size: usize) -> 
     ensures { result ≡ next_event s.now values begun at }
 {
     if s.len() - at < size {
-        return Next::Bad(7, at);
+        return Err(Refusal(Reason::InputEnds, at));
     }
     judge(values, begun, record_at(s, at), at, at + size)
 }
@@ -119,11 +115,11 @@ pub fn next_event(s: &[u8], values: usize, begun: bool, at: usize) -> Next
     ensures { result ≡ next_event s.now values begun at }
 {
     if s.len() <= at {
-        return Next::End;
+        return Ok(None);
     }
     let size = event_length(s[at]);
     if size == 0 {
-        return Next::Bad(17, at);
+        return Err(Refusal(Reason::Kind, at));
     }
     known_event(s, values, begun, at, size)
 }

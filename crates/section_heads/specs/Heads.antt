@@ -1,14 +1,10 @@
 -- Where a reading of sections stands, and what it finds there outside steps.
 -- Assumes nothing.
-use Rattle.std.specs.Prelude.{ℕ, zero, suc, ◌+◌, cond, List, replicate}
+use Rattle.std.specs.Prelude.{ℕ, zero, suc, ◌+◌, cond, List, replicate, None, Option, Some}
 use Rattle.slices.specs.Splice.{part}
 use Rattle.slices.specs.Field.{field_of}
-use Rattle.slices.specs.declared.Field.{Field}
-use Rattle.slices.specs.declared.Field.TheVariants as field
 use Rattle.numbers.specs.Fixed.{fixed, positive}
 use Rattle.numbers.specs.Marks.{same, eod, section_of}
-use Rattle.numbers.specs.declared.fixed.Positive.{Positive}
-use Rattle.numbers.specs.declared.fixed.Positive.TheVariants as sign
 use Rattle.numbers.specs.declared.marks.Section.{Section}
 use Rattle.numbers.specs.declared.marks.Section.TheVariants as section
 use Rattle.values.specs.declared.How.{How}
@@ -41,21 +37,21 @@ abbrev pub stops : (j : ℕ) → Said → Item
 stops j a = goes j a (standing Mark 0 0)
 
 abbrev pub bad : (n p : ℕ) → Item
-bad n p = stops p (Bad n)
+bad n p = stops p (Bad (n, p))
 
 -- "7: input ends inside a mark, head, field ..: its first byte"
-unfoldable pub within : Field → (ℕ → Item) → ℕ → Item
-within (field.Next j) k i = k j
-within field.Short k i = bad 7 i
+unfoldable pub within : Option ℕ → (ℕ → Item) → ℕ → Item
+within (Some j) k i = k j
+within None k i = bad 7 i
 
 -- "10: wrong end mark: mark"
 unfoldable pub end_item : (mark s : List ℕ) → ℕ → Item
 end_item mark s i = within (field_of 4 s i) (λ j. cond (same (part s i 4) mark) (passes j Mark 0) (bad 10 i)) i
 
 -- a number that must not be negative: "11: negative directory number: that number"
-unfoldable pub counted : Positive → ℕ → (ℕ → Item) → Item
-counted (sign.Number n) i k = k n
-counted sign.Negative i k = bad 11 i
+unfoldable pub counted : Option ℕ → ℕ → (ℕ → Item) → Item
+counted (Some n) i k = k n
+counted None i k = bad 11 i
 
 -- ---- outside steps
 

@@ -5,9 +5,10 @@ ghost use Rattle.std.specs.Prelude.{◌≡◌};
 ghost use Rattle.section_heads.specs.Heads.{standing, goes, passes, begins, stops, bad};
 ghost use Rattle.section_heads.specs.Heads.{open_snapshot, open_cycle, open_directory, open_tailer};
 
-use numbers::fixed::{Positive, read_i64, read_u32};
+use numbers::fixed::{read_i64, read_u32};
 use numbers::marks::is_mark;
-use slices::{Field, field_at};
+use refusals::{Reason, Refusal};
+use slices::field_at;
 use values::How;
 
 #[derive(Clone, Copy)]
@@ -34,7 +35,7 @@ pub struct Stand {
     pub time: u64,
 }
 
-// What bytes say; the input's end; or a refusal's number.
+// What bytes say; the input's end; or a refusal.
 #[derive(Clone, Copy)]
 pub enum Said {
     Nothing,
@@ -42,7 +43,7 @@ pub enum Said {
     Write { value: u64, id: usize },
     StepEnd,
     Over,
-    Bad(u64),
+    Bad(Refusal),
 }
 
 // What was found at a place: the place after it, or of a refusal, what it says, and where the reading stands then.
@@ -86,23 +87,23 @@ fn stops(at: usize, said: Said) -> Item
     goes(at, said, standing(Phase::Mark, 0, 0))
 }
 
-pub fn bad(at: usize, number: u64) -> Item
-    ensures { result ≡ bad number at }
+pub fn bad(refusal: Refusal) -> Item
+    ensures { result ≡ bad refusal.0 refusal.1 }
 {
-    stops(at, Said::Bad(number))
+    stops(refusal.place(), Said::Bad(refusal))
 }
 
 pub fn open_snapshot(how: How, s: &[u8], at: usize) -> Item
     ensures { result ≡ open_snapshot how s.now at }
 {
     match field_at(s, at, 12) {
-        Field::Next(next) => {
+        Some(next) => {
             if is_mark(s, at, &ZEROS) {
                 return begins(next, read_i64(how.big_endian, s, at + 4), Phase::Each);
             }
-            bad(at, 9)
+            bad(Refusal(Reason::Zeros, at))
         }
-        Field::Short => bad(at, 7),
+        None => bad(Refusal(Reason::InputEnds, at)),
     }
 }
 
@@ -110,8 +111,8 @@ pub fn open_cycle(how: How, s: &[u8], at: usize) -> Item
     ensures { result ≡ open_cycle how s.now at }
 {
     match field_at(s, at, 8) {
-        Field::Next(next) => begins(next, read_i64(how.big_endian, s, at), Phase::Listed),
-        Field::Short => bad(at, 7),
+        Some(next) => begins(next, read_i64(how.big_endian, s, at), Phase::Listed),
+        None => bad(Refusal(Reason::InputEnds, at)),
     }
 }
 
@@ -119,11 +120,11 @@ pub fn open_directory(how: How, s: &[u8], at: usize) -> Item
     ensures { result ≡ open_directory how s.now at }
 {
     match field_at(s, at, 8) {
-        Field::Next(next) => match read_u32(how.big_endian, s, at + 4) {
-            Positive::Number(n) => passes(next, Phase::Entries, n as usize),
-            Positive::Negative => bad(at + 4, 11),
+        Some(next) => match read_u32(how.big_endian, s, at + 4) {
+            Some(n) => passes(next, Phase::Entries, n as usize),
+            None => bad(Refusal(Reason::Negative, at + 4)),
         },
-        Field::Short => bad(at, 7),
+        None => bad(Refusal(Reason::InputEnds, at)),
     }
 }
 
@@ -132,7 +133,7 @@ pub fn open_tailer(s: &[u8], at: usize) -> Item
     ensures { result ≡ open_tailer s.now at }
 {
     match field_at(s, at, 8) {
-        Field::Next(next) => stops(next, Said::Over),
-        Field::Short => bad(at, 7),
+        Some(next) => stops(next, Said::Over),
+        None => bad(Refusal(Reason::InputEnds, at)),
     }
 }

@@ -5,13 +5,14 @@ ghost use Rattle.std.specs.Prelude.{◌≡◌, ◌≤◌, length};
 ghost use Rattle.values.specs.Value.{value};
 ghost use Rattle.section_scan.specs.Sections.{next_time};
 ghost use Rattle.sections.specs.Item.{in_values, after_values, write_item, value_item, next_item};
-ghost use Rattle.sections.specs.Item.{time_of, time_item, head_item};
+ghost use Rattle.sections.specs.Item.{time_item, head_item};
 ghost use Rattle.sections.specs.Item.Code.{IdOf, Stands};
 
 use numbers::marks::{ECY, ESN};
 use section_heads::{Item, Phase, Said, Stand, bad, begins, goes, standing};
 use section_marks::{end_item, entry_item, section_item};
-use sections::{NextTime, next_of, next_time, signal_kind};
+use section_scan::NextTime;
+use sections::{next_of, next_time, signal_kind};
 use values::{How, Read, read_narrow, read_real, read_signed};
 
 // Where a reading stands after the values of a step.
@@ -44,12 +45,8 @@ fn write_item(kinds: &[u8], how: How, s: &[u8], x: Stand, id: usize, at: usize) 
 {
     let phase = x.phase;
     match value_at(how, signal_kind(kinds, id), s, at) {
-        Read::Value(value, end) => goes(
-            end,
-            Said::Write { value, id },
-            standing(phase, id, x.time),
-        ),
-        Read::Bad(number, place) => bad(place, number),
+        Ok((value, end)) => goes(end, Said::Write { value, id }, standing(phase, id, x.time)),
+        Err(refusal) => bad(refusal),
     }
 }
 
@@ -60,7 +57,7 @@ pub fn value_item(kinds: &[u8], how: How, s: &[u8], x: Stand, at: usize) -> Item
 {
     let phase = x.phase;
     match next_of(phase, kinds, s, x.id, at) {
-        Read::Value(found, next) => {
+        Ok((found, next)) => {
             if found == 0 {
                 return goes(
                     next,
@@ -70,18 +67,18 @@ pub fn value_item(kinds: &[u8], how: How, s: &[u8], x: Stand, at: usize) -> Item
             }
             write_item(kinds, how, s, x, found as usize, next)
         }
-        Read::Bad(number, place) => bad(place, number),
+        Err(refusal) => bad(refusal),
     }
 }
 
 // The time of the next step, or the cycle's end.
 fn time_item(s: &[u8], u: u64, at: usize) -> Item
-    ensures { result ≡ time_item s.now (time_of (next_time s.now u at)) }
+    ensures { result ≡ time_item s.now (next_time s.now u at) }
 {
     match next_time(s, u, at) {
-        NextTime::Time(next, time) => begins(next, time, Phase::Listed),
-        NextTime::End(next) => end_item(s, next, &ECY),
-        NextTime::Bad(place, number) => bad(place, number),
+        Ok(NextTime::Time(time, next)) => begins(next, time, Phase::Listed),
+        Ok(NextTime::End(next)) => end_item(s, next, &ECY),
+        Err(refusal) => bad(refusal),
     }
 }
 

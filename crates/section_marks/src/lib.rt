@@ -5,25 +5,26 @@ ghost use Rattle.std.specs.Prelude.{◌≡◌};
 ghost use Rattle.section_heads.specs.Heads.{end_item, opens, section_item};
 ghost use Rattle.section_heads.specs.Heads.{entry_item};
 
-use numbers::fixed::{Positive, read_u32};
+use numbers::fixed::read_u32;
 use numbers::marks::{EOD, Section, is_mark, section_at};
+use refusals::{Reason, Refusal};
 use section_heads::{
     Item, Phase, bad, open_cycle, open_directory, open_snapshot, open_tailer, passes,
 };
-use slices::{Field, field_at};
+use slices::field_at;
 use values::How;
 
 pub fn end_item(s: &[u8], at: usize, mark: &[u8; 4]) -> Item
     ensures { result ≡ end_item mark.now s.now at }
 {
     match field_at(s, at, 4) {
-        Field::Next(next) => {
+        Some(next) => {
             if is_mark(s, at, mark) {
                 return passes(next, Phase::Mark, 0);
             }
-            bad(at, 10)
+            bad(Refusal(Reason::EndMark, at))
         }
-        Field::Short => bad(at, 7),
+        None => bad(Refusal(Reason::InputEnds, at)),
     }
 }
 
@@ -36,7 +37,7 @@ fn opened(how: How, s: &[u8], section: Section, mark: usize, at: usize) -> Item
         Section::Cycle => open_cycle(how, s, at),
         Section::Directory => open_directory(how, s, at),
         Section::Tailer => open_tailer(s, at),
-        Section::Unknown => bad(mark, 8),
+        Section::Unknown => bad(Refusal(Reason::Mark, mark)),
     }
 }
 
@@ -44,8 +45,8 @@ pub fn section_item(how: How, s: &[u8], at: usize) -> Item
     ensures { result ≡ section_item how s.now at }
 {
     match field_at(s, at, 4) {
-        Field::Next(next) => opened(how, s, section_at(s, at), at, next),
-        Field::Short => bad(at, 7),
+        Some(next) => opened(how, s, section_at(s, at), at, next),
+        None => bad(Refusal(Reason::InputEnds, at)),
     }
 }
 
@@ -56,13 +57,13 @@ pub fn entry_item(how: How, s: &[u8], left: usize, at: usize) -> Item
         return end_item(s, at, &EOD);
     }
     match field_at(s, at, 4) {
-        Field::Next(second) => match field_at(s, second, 4) {
-            Field::Next(next) => match read_u32(how.big_endian, s, second) {
-                Positive::Number(_) => passes(next, Phase::Entries, left - 1),
-                Positive::Negative => bad(second, 11),
+        Some(second) => match field_at(s, second, 4) {
+            Some(next) => match read_u32(how.big_endian, s, second) {
+                Some(_) => passes(next, Phase::Entries, left - 1),
+                None => bad(Refusal(Reason::Negative, second)),
             },
-            Field::Short => bad(second, 7),
+            None => bad(Refusal(Reason::InputEnds, second)),
         },
-        Field::Short => bad(at, 7),
+        None => bad(Refusal(Reason::InputEnds, at)),
     }
 }

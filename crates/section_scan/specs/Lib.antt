@@ -1,1 +1,3 @@
+pub mod FoundId
+pub mod FoundTime
 pub mod Sections

@@ -8,15 +8,14 @@ use Rattle.numbers.specs.declared.marks.Section.{Section}
 use Rattle.numbers.specs.declared.marks.Section.TheVariants.{Snapshot, Cycle, Directory, Tailer, Unknown}
 use Rattle.tables.specs.Lists.{Lists, lists, nth, signals}
 use Rattle.values.specs.declared.How.{How}
-use Rattle.values.specs.declared.Read.{Read}
-use Rattle.values.specs.declared.Read.TheVariants.{Bad}
+use Rattle.values.specs.Read.{Read, Bad}
 use Rattle.values.specs.Value.{on_read, unsigned, signed, value}
 use Rattle.rules.specs.Gather.{time, write, step_end}
 use Rattle.rules.specs.Scan.{Scan, say, done, fault, and_then}
-use Rattle.section_scan.specs.declared.NextId.{NextId}
-use Rattle.section_scan.specs.declared.NextId.TheVariants as ids
-use Rattle.section_scan.specs.declared.NextTime.{NextTime}
-use Rattle.section_scan.specs.declared.NextTime.TheVariants as times
+use Rattle.section_scan.specs.FoundId.{FoundId}
+use Rattle.section_scan.specs.FoundTime.{FoundTime}
+use Rattle.section_scan.specs.FoundId as ids
+use Rattle.section_scan.specs.FoundTime as times
 pub mod Deltas
 pub mod Stepped
 pub mod Manners
@@ -37,7 +36,7 @@ unfoldable pub end_mark : List ℕ → List ℕ → ℕ → Scan
 end_mark mark s i = field 4 s i (λ j. cond (same (part s i 4) mark) (done j) (fault 10 i))
 
 -- "unsigned LEB128 deltas, each added to the last id ..; delta 0 ends it"; "13: id is 0 or past n: delta"
-unfoldable pub next_id : Lists → List ℕ → ℕ → ℕ → NextId
+unfoldable pub next_id : Lists → List ℕ → ℕ → ℕ → FoundId
 next_id t s id i =
     on_read (unsigned s i) ids.Bad
     (λ d j. cond (eqb d 0) (ids.End j) (cond (leb (id + d) (signals t)) (ids.Id (id + d) j) (ids.Bad 13 i)))
@@ -49,7 +48,7 @@ module _ (t : Lists) (how : How) (s : List ℕ) where
   each_value (suc count) id i =
       then (value how (nth t.kinds id) s i) (λ v j. say (write id v i) j (each_value count (suc id) j))
 
-  unfoldable pub one_change : NextId → (ℕ → ℕ → Scan) → Scan
+  unfoldable pub one_change : FoundId → (ℕ → ℕ → Scan) → Scan
   one_change (ids.Id id j) more = then (value how (nth t.kinds id) s j) (λ v k. say (write id v j) k (more id k))
   one_change (ids.End j) more = done j
   one_change (ids.Bad n p) more = fault n p
@@ -60,7 +59,7 @@ module _ (t : Lists) (how : How) (s : List ℕ) where
   change_list (suc fuel) id i = one_change (next_id t s id i) (λ id' k. change_list fuel id' k)
 
 -- "a signed LEB128 delta. Negative ends the cycle ..; zero or more is added to the time"; "15: time passes 2^64-1: time delta"
-unfoldable pub next_time : List ℕ → ℕ → ℕ → NextTime
+unfoldable pub next_time : List ℕ → ℕ → ℕ → FoundTime
 next_time s u i =
     on_read (signed s i) times.Bad
     (λ d j. cond (negative 64 d) (times.End j) (cond (ltb (u + d) (2 ^ 64)) (times.Time (u + d) j) (times.Bad 15 i)))
@@ -77,7 +76,7 @@ module _ (t : Lists) (how : How) (s : List ℕ) where
       (say (time (fixed flag (part s (i + 4) 8))) j (and_then (each_value t how s (signals t) 1 j) (λ k. say step_end k (end_mark esn s k))))
       (fault 9 i))
 
-  unfoldable pub one_step : NextTime → (ℕ → ℕ → Scan) → Scan
+  unfoldable pub one_step : FoundTime → (ℕ → ℕ → Scan) → Scan
   one_step (times.Time u j) more = say (time u) j (more u j)
   one_step (times.End j) more = end_mark ecy s j
   one_step (times.Bad n p) more = fault n p

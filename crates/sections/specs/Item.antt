@@ -2,18 +2,16 @@
 -- Assumes nothing.
 use Rattle.std.specs.Prelude.{ℕ, ◌+◌, Bool, true, false, cond, List, length, ltb, eqb}
 use Rattle.tables.specs.Lists.{nth}
-use Rattle.values.specs.declared.Read.{Read}
-use Rattle.values.specs.declared.Read.TheVariants as read
+use Rattle.values.specs.Read.{Read}
+use Rattle.values.specs.Read as read
 use Rattle.values.specs.Value.{on_read, value}
 use Rattle.section_scan.specs.Sections.{with_kinds}
 use Rattle.section_scan.specs.Sections.{next_id, next_time}
-use Rattle.section_scan.specs.declared.NextTime as scanned
-use Rattle.section_scan.specs.declared.NextTime.TheVariants as times
-use Rattle.sections.specs.declared.NextTime.{NextTime}
-use Rattle.sections.specs.declared.NextTime.TheVariants as next
+use Rattle.section_scan.specs.FoundTime.{FoundTime}
+use Rattle.section_scan.specs.FoundTime as times
 use Rattle.numbers.specs.Marks.{ecy, esn}
-use Rattle.section_scan.specs.declared.NextId.{NextId}
-use Rattle.section_scan.specs.declared.NextId.TheVariants as ids
+use Rattle.section_scan.specs.FoundId.{FoundId}
+use Rattle.section_scan.specs.FoundId as ids
 use Rattle.values.specs.declared.How.{How}
 use Rattle.section_heads.specs.declared.Phase.{Phase}
 use Rattle.section_heads.specs.declared.Phase.TheVariants.{Mark, Entries, Each, Closing, Listed, Between}
@@ -26,16 +24,11 @@ pub mod Scans
 
 -- ---- between the values of steps
 
--- a delta: another step, or the cycle's end; the place first
-unfoldable pub time_of : scanned.NextTime → NextTime
-time_of (times.Time u j) = next.Time j u
-time_of (times.End j) = next.End j
-time_of (times.Bad n p) = next.Bad p n
-
-unfoldable pub time_item : List ℕ → NextTime → Item
-time_item s (next.Time j u) = begins j u Listed
-time_item s (next.End j) = end_item ecy s j
-time_item s (next.Bad p n) = bad n p
+-- a delta: another step, or the cycle's end
+unfoldable pub time_item : List ℕ → FoundTime → Item
+time_item s (times.Time u j) = begins j u Listed
+time_item s (times.End j) = end_item ecy s j
+time_item s (times.Bad n p) = bad n p
 
 unfoldable pub head_of : How → List ℕ → Phase → (id u i : ℕ) → Item
 head_of how s Mark id u i = section_item how s i
@@ -43,7 +36,7 @@ head_of how s Entries left u i = entry_item how s left i
 head_of how s Each id u i = section_item how s i
 head_of how s Closing id u i = end_item esn s i
 head_of how s Listed id u i = section_item how s i
-head_of how s Between id u i = time_item s (time_of (next_time s u i))
+head_of how s Between id u i = time_item s (next_time s u i)
 
 unfoldable pub head_item : How → List ℕ → Stand → ℕ → Item
 head_item how s x i = head_of how s x.phase x.id x.time i
@@ -71,7 +64,7 @@ unfoldable pub after_values : Phase → Phase
 after_values p = cond (is_each p) Closing Between
 
 -- the next id and the place after its delta, id 0 at the list's end
-unfoldable pub id_of : NextId → Read
+unfoldable pub id_of : FoundId → Read
 id_of (ids.Id id j) = read.Value id j
 id_of (ids.End j) = read.Value 0 j
 id_of (ids.Bad n p) = read.Bad n p

@@ -5,55 +5,40 @@ ghost use Rattle.std.specs.Prelude.{◌≡◌, ◌≤◌, length};
 ghost use Rattle.tables.specs.Lists.{nth};
 ghost use Rattle.section_scan.specs.Sections.{next_time};
 ghost use Rattle.sections.specs.Item.{id_in, next_of};
-ghost use Rattle.sections.specs.Item.{time_of};
 ghost use Rattle.sections.specs.Item.Code.{IdOf};
 
+use refusals::{Reason, Refusal};
 use section_heads::Phase;
+use section_scan::NextTime;
 use values::{Read, read_signed, read_unsigned};
-
-// The place after a delta and the next time of a cycle; or the place after the cycle's last delta; or a refusal's place and number.
-#[derive(Clone, Copy)]
-pub enum NextTime {
-    Time(usize, u64),
-    End(usize),
-    Bad(usize, u64),
-}
 
 // The next id of a change list and the place after its delta, id 0 where the list ends; or a refusal.
 pub fn next_id(kinds: &[u8], s: &[u8], id: usize, at: usize) -> Read
     requires { id ≤ length kinds.now }
     ensures { result ≡ id_in kinds.now s.now id at }
 {
-    match read_unsigned(s, at) {
-        Read::Value(d, next) => {
-            if d == 0 {
-                return Read::Value(0, next);
-            }
-            if d as usize <= kinds.len() - id {
-                Read::Value(id as u64 + d, next)
-            } else {
-                Read::Bad(13, at)
-            }
-        }
-        Read::Bad(number, place) => Read::Bad(number, place),
+    let (d, next) = read_unsigned(s, at)?;
+    if d == 0 {
+        return Ok((0, next));
+    }
+    if d as usize <= kinds.len() - id {
+        Ok((id as u64 + d, next))
+    } else {
+        Err(Refusal(Reason::Id, at))
     }
 }
 
-pub fn next_time(s: &[u8], u: u64, at: usize) -> NextTime
-    ensures { result ≡ time_of (next_time s.now u at) }
+pub fn next_time(s: &[u8], u: u64, at: usize) -> Result<NextTime, Refusal>
+    ensures { result ≡ next_time s.now u at }
 {
-    match read_signed(s, at) {
-        Read::Value(d, next) => {
-            if 0x8000_0000_0000_0000 <= d {
-                return NextTime::End(next);
-            }
-            if d <= 0xffff_ffff_ffff_ffff - u {
-                NextTime::Time(next, u + d)
-            } else {
-                NextTime::Bad(at, 15)
-            }
-        }
-        Read::Bad(number, place) => NextTime::Bad(place, number),
+    let (d, next) = read_signed(s, at)?;
+    if 0x8000_0000_0000_0000 <= d {
+        return Ok(NextTime::End(next));
+    }
+    if d <= 0xffff_ffff_ffff_ffff - u {
+        Ok(NextTime::Time(u + d, next))
+    } else {
+        Err(Refusal(Reason::Time, at))
     }
 }
 
@@ -72,9 +57,9 @@ pub fn next_of(phase: Phase, kinds: &[u8], s: &[u8], id: usize, at: usize) -> Re
     match phase {
         Phase::Each => {
             if id < kinds.len() {
-                Read::Value(id as u64 + 1, at)
+                Ok((id as u64 + 1, at))
             } else {
-                Read::Value(0, at)
+                Ok((0, at))
             }
         }
         _ => next_id(kinds, s, id, at),

@@ -4,12 +4,11 @@ use Rattle.std.specs.Prelude.{ℕ, ◌+◌, ◌≤◌, Bool, false, cond, ◌&&�
 use Rattle.slices.specs.Splice.{part}
 use Rattle.numbers.specs.Fixed.{fixed}
 use Rattle.leb128.specs.Leb128.{read_unsigned, read_signed}
-use Rattle.leb128.specs.declared.Leb.{Leb}
-use Rattle.leb128.specs.declared.Leb.TheVariants as leb
+use Rattle.leb128.specs.Leb.{Leb}
+use Rattle.leb128.specs.Leb as leb
 use Rattle.states.specs.Letters.{mapped}
 use Rattle.values.specs.declared.How.{How}
-use Rattle.values.specs.declared.Read.{Read}
-use Rattle.values.specs.declared.Read.TheVariants.{Value, Bad}
+use Rattle.values.specs.Read.{Read, Value, Bad}
 pub mod Laws
 pub mod Reads
 pub mod Manners

@@ -5,9 +5,10 @@ ghost use Rattle.std.specs.Prelude.{◌≡◌};
 ghost use Rattle.states.specs.Letters.{mapped};
 ghost use Rattle.values.specs.Value.{number, unsigned, signed, byte_up_to, big_real, real, narrow, value};
 
-use leb128::Leb;
+use leb128::LebError;
 use numbers::fixed::read_i64;
-use slices::{Field, field_at, u64_of_byte};
+use refusals::{Reason, Refusal};
+use slices::{field_at, u64_of_byte};
 use states::std_logic;
 
 // How bytes are read: by the flag, and reals too or little-endian whatever it says.
@@ -17,22 +18,17 @@ pub struct How {
     pub reals_by_flag: bool,
 }
 
-// What was read and the place after it, or a refusal's number and place.
-#[derive(Clone, Copy)]
-pub enum Read {
-    Value(u64, usize),
-    Bad(u64, usize),
-}
+// What was read and the place after it.
+pub type Read = Result<(u64, usize), Refusal>;
 
 // A number that was looked for at `at`.
-fn number(at: usize, found: Leb) -> Read
+fn number(at: usize, found: Result<(u64, usize), LebError>) -> Read
     ensures { result ≡ number at found }
 {
-    match found {
-        Leb::Value(v, next) => Read::Value(v, next),
-        Leb::Short => Read::Bad(7, at),
-        Leb::Large => Read::Bad(12, at),
-    }
+    found.map_err(|error| match error {
+        LebError::Short => Refusal(Reason::InputEnds, at),
+        LebError::Large => Refusal(Reason::Leb128, at),
+    })
 }
 
 pub fn read_unsigned(s: &[u8], at: usize) -> Read
@@ -53,13 +49,13 @@ pub fn read_byte(s: &[u8], at: usize, most: u8) -> Read
     ensures { result ≡ byte_up_to most (λ b. b) s.now at }
 {
     if s.len() <= at {
-        return Read::Bad(7, at);
+        return Err(Refusal(Reason::InputEnds, at));
     }
     let b = s[at];
     if b <= most {
-        Read::Value(u64_of_byte(b), at + 1)
+        Ok((u64_of_byte(b), at + 1))
     } else {
-        Read::Bad(14, at)
+        Err(Refusal(Reason::Value, at))
     }
 }
 
@@ -68,13 +64,13 @@ pub fn read_nine_state(s: &[u8], at: usize) -> Read
     ensures { result ≡ byte_up_to 8 mapped s.now at }
 {
     if s.len() <= at {
-        return Read::Bad(7, at);
+        return Err(Refusal(Reason::InputEnds, at));
     }
     let b = s[at];
     if b <= 8 {
-        Read::Value(u64_of_byte(std_logic(b)), at + 1)
+        Ok((u64_of_byte(std_logic(b)), at + 1))
     } else {
-        Read::Bad(14, at)
+        Err(Refusal(Reason::Value, at))
     }
 }
 
@@ -94,8 +90,8 @@ pub fn read_real(how: How, s: &[u8], at: usize) -> Read
     ensures { result ≡ real how s.now at }
 {
     match field_at(s, at, 8) {
-        Field::Next(next) => Read::Value(read_i64(big_real(how), s, at), next),
-        Field::Short => Read::Bad(7, at),
+        Some(next) => Ok((read_i64(big_real(how), s, at), next)),
+        None => Err(Refusal(Reason::InputEnds, at)),
     }
 }
 

@@ -8,16 +8,15 @@ use borrow.Author.Tests.{leb-true, leb-false, eqb-true, eqb-false}
 use Rattle.std.proofs.Math.Dec.{leb}
 use Rattle.slices.specs.Choice.{cond_ind}
 use Rattle.tables.specs.Lists.{Lists, nth, signals}
-use Rattle.values.specs.declared.Read.{Read}
-use Rattle.values.specs.declared.Read.TheVariants as read
+use Rattle.values.specs.Read.{Read}
+use Rattle.values.specs.Read as read
 use Rattle.values.specs.Value.{Suits, on_read, narrow}
 use Rattle.values.specs.Value.Laws.{narrow_next, narrow_suits}
-use Rattle.changes.specs.declared.Change.{Change}
-use Rattle.changes.specs.declared.Change.TheVariants.{Time, Write, StepEnd, End, Bad}
+use Rattle.changes.specs.Change.{ChangeFound, Time, Write, StepEnd, End, Bad}
 use Rattle.changes.specs.Changes.{record_length, written, write_record, in_order, change_record, next_change}
 use Rattle.changes.specs.Changes.Whole.{Whole, Writes, whole_time, whole_write}
 
-abbrev pub Found : Lists → List ℕ → ℕ → Change → Type 0
+abbrev pub Found : Lists → List ℕ → ℕ → ChangeFound → Type 0
 Found t s i (Time u j) = (i < j) × (j ≤ length s)
 Found t s i (Write id v j) = (i < j) × (j ≤ length s) × (1 ≤ id) × (id ≤ signals t) × Suits (nth t.kinds id) v
 Found t s i (StepEnd j) = (i < j) × (j ≤ length s)
@@ -82,5 +81,5 @@ module _ (t : Lists) (s : List ℕ) (i : ℕ) where
       (λ e. cond_ind inside _ _ (Found t s i) (λ b. tt) (λ b. tt))
       (λ e. record_found inside (leb-false _ _ e))
 
-  pub change_found : (inside : Bool) {r : Change} → r ≡ next_change t s inside i → {x : Change} → r ≡ x → Found t s i x
+  pub change_found : (inside : Bool) {r : ChangeFound} → r ≡ next_change t s inside i → {x : ChangeFound} → r ≡ x → Found t s i x
   change_found inside e d = subst (Found t s i) (sym e ∙ d) (next_found inside)

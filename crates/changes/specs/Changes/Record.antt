@@ -8,11 +8,10 @@ use borrow.Author.Tests.{le-leb, lt-leb, ne_eqb}
 use Rattle.slices.specs.Splice.{part}
 use Rattle.numbers.specs.Fixed.{big}
 use Rattle.tables.specs.Lists.{Lists, lists, nth, signals}
-use Rattle.values.specs.declared.Read.{Read}
-use Rattle.values.specs.declared.Read.TheVariants as read
+use Rattle.values.specs.Read.{Read}
+use Rattle.values.specs.Read as read
 use Rattle.values.specs.Value.{on_read, narrow}
-use Rattle.changes.specs.declared.Change.{Change}
-use Rattle.changes.specs.declared.Change.TheVariants.{Time, Write, StepEnd, End, Bad}
+use Rattle.changes.specs.Change.{ChangeFound, Time, Write, StepEnd, End, Bad}
 use Rattle.changes.specs.Changes.{record_length, written, write_record, in_order, change_record, next_change}
 use Rattle.changes.specs.Changes.Whole.{Whole, whole_time, whole_id, whole_write, writes_byte, writes_wide}
 
@@ -63,7 +62,7 @@ module _ (t : Lists) (s : List ℕ) (id i : ℕ) where
       unfolding write_record
       id_none l = rw (lt-leb 1 id l)
 
-      module _ (l : 1 ≤ id) {r : Change} where
+      module _ (l : 1 ≤ id) {r : ChangeFound} where
         pub write_byte : k ≡ 2 → r ≡ written t s 2 id i → r ≡ write_record t s k id i
         unfolding write_record signals
         write_byte e d = rw (le-leb 1 id l, le-leb id (length t.kinds) h, e) d
@@ -90,7 +89,7 @@ module _ (t : Lists) (s : List ℕ) (k i : ℕ) where
     unfolding in_order
     step_end_lem b e = rw (b, e)
 
-    pub a_write_is : inside ≡ true → (k ≡ 4 → ⊥) → {id : ℕ} → id ≡ big (part s (i + 1) 4) → {r : Change} → r ≡ write_record t s k id i → r ≡ in_order t s inside k i
+    pub a_write_is : inside ≡ true → (k ≡ 4 → ⊥) → {id : ℕ} → id ≡ big (part s (i + 1) 4) → {r : ChangeFound} → r ≡ write_record t s k id i → r ≡ in_order t s inside k i
     unfolding in_order
     a_write_is b n₄ p d = rw (ne_eqb k 1 n, b, ne_eqb k 4 n₄, ← p) d
 
@@ -109,7 +108,7 @@ module _ (t : Lists) (s : List ℕ) (inside : Bool) (i : ℕ) where
         pub record_whole : Whole s (get_or s i 0) i
         record_whole = record { known = λ y. z (e ∙ y); begins = h; ends = rw (← e) (omega arith) }
 
-        pub record_read : {r : Change} → r ≡ in_order t s inside (get_or s i 0) i → r ≡ change_record t s inside i
+        pub record_read : {r : ChangeFound} → r ≡ in_order t s inside (get_or s i 0) i → r ≡ change_record t s inside i
         unfolding change_record
         record_read d = rw (← e, ne_eqb n 0 z, le-leb (i + n) (length s) (omega arith)) d
 
@@ -121,7 +120,7 @@ module _ (t : Lists) (s : List ℕ) (inside : Bool) (i : ℕ) where
   unfolding next_change
   ends_outside h b = rw (le-leb (length s) i h, b)
 
-  pub reads_on : i < length s → {r : Change} → r ≡ change_record t s inside i → r ≡ next_change t s inside i
+  pub reads_on : i < length s → {r : ChangeFound} → r ≡ change_record t s inside i → r ≡ next_change t s inside i
   unfolding next_change
   reads_on h d = rw (lt-leb (length s) i h) d
 

@@ -13,15 +13,14 @@ use Rattle.slices.specs.Choice.{cond_ind}
 use Rattle.slices.specs.Splice.{part}
 use Rattle.numbers.specs.Fixed.{big}
 use Rattle.tables.specs.Lists.{Lists, nth, signals}
-use Rattle.values.specs.declared.Read.{Read}
-use Rattle.values.specs.declared.Read.TheVariants as read
+use Rattle.values.specs.Read.{Read}
+use Rattle.values.specs.Read as read
 use Rattle.values.specs.Value.{on_read}
 use Rattle.values.specs.Value.Reads.{Reads, narrow_reads}
 use Rattle.rules.specs.Steps.{Stepped}
 use Rattle.rules.specs.Scan.{Scan, done, acts, Ends, Faults}
 use Rattle.rules.specs.Scan.Ordered.{Ordered, ordered_steps, ordered_end, ordered_fault}
-use Rattle.changes.specs.declared.Change.{Change}
-use Rattle.changes.specs.declared.Change.TheVariants.{Time, Write, StepEnd, End, Bad}
+use Rattle.changes.specs.Change.{ChangeFound, Time, Write, StepEnd, End, Bad}
 use Rattle.changes.specs.Changes.{record_length, written, write_record, in_order, change_record, next_change, one_record, changes, scan_changes}
 
 -- the numbers with which change records are refused: not 16, which only an event gives
@@ -45,7 +44,7 @@ wide_length k a b c = rw (a, b, c) (cond_ind (eqb k 3) 13 0 (λ n. n ≢ 0 → n
 module _ (t : Lists) (s : List ℕ) where
   -- ---- what stands at a place: a record that is in order there, and ends in the input
 
-  Found : Bool → ℕ → Change → Type 0
+  Found : Bool → ℕ → ChangeFound → Type 0
   Found inside i (Time u j) = (inside ≡ false) × (i < j) × (j ≤ length s)
   Found inside i (Write id v j) = (inside ≡ true) × (i < j) × (j ≤ length s)
   Found inside i (StepEnd j) = (inside ≡ true) × (i < j) × (j ≤ length s)
@@ -102,7 +101,7 @@ module _ (t : Lists) (s : List ℕ) where
   abbrev Goes : Scan → Bool → ℕ → Type 0
   Goes = Ordered (λ n i. Unit {0}) (λ i. i ≡ length s) ChangeNumber
 
-  one_record_lem : (inside : Bool) (i m : ℕ) (c : Change) (more : Bool → ℕ → Scan) → Found inside i c → i ≤ length s
+  one_record_lem : (inside : Bool) (i m : ℕ) (c : ChangeFound) (more : Bool → ℕ → Scan) → Found inside i c → i ≤ length s
       → ((b : Bool) (j n : ℕ) → i < j → j ≤ length s → Goes (more b j) b n) → Goes (one_record t s c i more) inside m
   unfolding one_record Found Ordered
   one_record_lem false i m (Time u j) more o l rec = rec true j m o.1 o.2

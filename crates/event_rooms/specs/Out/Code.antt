@@ -1,6 +1,6 @@
 -- What the proofs of the functions that append an event where it fits search.
 -- Assumes nothing.
-use Rattle.std.specs.Prelude.{◌≡◌, ℕ, ◌+◌, ◌-◌, ◌≤◌, ◌<◌, Bool, true, false, not, List, [], ◌∷◌, leb, length}
+use Rattle.std.specs.Prelude.{◌≡◌, ℕ, ◌+◌, ◌-◌, ◌≤◌, ◌<◌, Bool, true, false, not, List, [], ◌∷◌, leb, length, None, Some}
 use Rattle.std.proofs.Math.Path.{refl, sym}
 use Rattle.std.proofs.Common.{◌∙◌, ⊎_elim, add-zero, arith}
 use borrow.Author.Tests.{le-leb, lt-leb, not-true, not-false}
@@ -9,7 +9,6 @@ use Rattle.slices.specs.Splice.{splice}
 use Rattle.slices.specs.Splice.Laws.{splice_nil}
 use Rattle.states.specs.declared.States.{States}
 use Rattle.event_rooms.specs.declared.Counts.{Counts}
-use Rattle.event_rooms.specs.declared.Put.TheVariants.{Done, Full}
 use Rattle.records.specs.declared.Record.TheVariants.{Time, Value, Real}
 use Rattle.records.specs.Event.{Event, time, value, real, record_of, record_bytes, event_value, event_steps}
 use Rattle.records.specs.Event.Laws.{length_time, length_real}
@@ -45,11 +44,11 @@ module _ (e : Event) (no : event_value e ≡ []) {k : ℕ} (long : length (recor
   asked : c.values ≤ length values → room_for_event (length events) (length values) c e ≡ m
   asked used = rw (no, long, t) (sym (bare (length events) (length values) c k used))
 
-  bare_full : m ≡ false → Appends (e ∷ []) events values c events' values Full
+  bare_full : m ≡ false → Appends (e ∷ []) events values c events' values None
   bare_full h = record { comes = λ r o w. (appends_full e events values c events' values (asked w.in_values.used ∙ h)).comes r o w }
 
   bare_done : m ≡ true → (c' : Counts) → c'.events ≡ c.events + k → c'.values ≡ c.values → c'.steps ≡ c.steps + event_steps e
-      → events' ≡ splice events c.events (record_bytes (record_of c.values e)) → Appends (e ∷ []) events values c events' values (Done c')
+      → events' ≡ splice events c.events (record_bytes (record_of c.values e)) → Appends (e ∷ []) events values c events' values (Some c')
   bare_done h c' n v st p =
       record {
         comes =
@@ -62,12 +61,12 @@ module _ (events : List ℕ) (c : Counts) where
     unfolding record_of
     time_long = length_time u
 
-    pub time_full : not m ≡ true → (events' values : List ℕ) → Appends (time u ∷ []) events values c events' values Full
+    pub time_full : not m ≡ true → (events' values : List ℕ) → Appends (time u ∷ []) events values c events' values None
     unfolding event_value
     time_full h events' values = bare_full (time u) refl time_long events c t events' values (not-true m h)
 
     pub time_done : not m ≡ false → (events' : List ℕ) → events' ≡ splice events c.events (record_bytes (Time u))
-        → (values : List ℕ) → Appends (time u ∷ []) events values c events' values (Done (record { events = c.events + 9; values = c.values; steps = c.steps + 1 }))
+        → (values : List ℕ) → Appends (time u ∷ []) events values c events' values (Some (record { events = c.events + 9; values = c.values; steps = c.steps + 1 }))
     unfolding event_value record_of event_steps
     time_done h events' p values = bare_done (time u) refl time_long events c t events' values (not-false m h) _ refl refl refl p
 
@@ -79,12 +78,12 @@ module _ (events : List ℕ) (c : Counts) where
     unfolding record_of
     real_long = length_real reference bits
 
-    pub real_full : not m ≡ true → (events' values : List ℕ) → Appends (real reference bits ∷ []) events values c events' values Full
+    pub real_full : not m ≡ true → (events' values : List ℕ) → Appends (real reference bits ∷ []) events values c events' values None
     unfolding event_value
     real_full h events' values = bare_full (real reference bits) refl real_long events c t events' values (not-true m h)
 
     pub real_done : not m ≡ false → (events' : List ℕ) → events' ≡ splice events c.events (record_bytes (Real reference bits))
-        → (values : List ℕ) → Appends (real reference bits ∷ []) events values c events' values (Done (record { events = c.events + 13; values = c.values; steps = c.steps }))
+        → (values : List ℕ) → Appends (real reference bits ∷ []) events values c events' values (Some (record { events = c.events + 13; values = c.values; steps = c.steps }))
     unfolding event_value record_of event_steps
     real_done h events' p values =
         bare_done (real reference bits) refl real_long events c t events' values (not-false m h) _ refl refl (sym (add-zero c.steps)) p
@@ -105,11 +104,11 @@ module _ (events values : List ℕ) (c : Counts) {m : Bool} (n : ℕ) (t : m ≡
   start_fits h v = omega (arith, copy_room h)
 
 module _ (vector : ℕ) (s : States) (reference : ℕ) (bs : List ℕ) (events values : List ℕ) (c : Counts) (events' values' : List ℕ) {m : Bool} (t : m ≡ room_for (length events) (length values) c 13 (length bs)) where
-  pub raw_full : not m ≡ true → Appends (value vector s reference bs ∷ []) events values c events' values' Full
+  pub raw_full : not m ≡ true → Appends (value vector s reference bs ∷ []) events values c events' values' None
   raw_full h = value_full vector s reference bs (length bs) refl events values c events' values' (sym t ∙ not-true m h)
 
   pub raw_done : not m ≡ false → events' ≡ splice events c.events (record_bytes (Value s reference c.values (length bs))) → values' ≡ splice values c.values bs
-      → {c' : Counts} → c' ≡ counted c 13 (length bs) 0 → Appends (value vector s reference bs ∷ []) events values c events' values' (Done c')
+      → {c' : Counts} → c' ≡ counted c 13 (length bs) 0 → Appends (value vector s reference bs ∷ []) events values c events' values' (Some c')
   raw_done h p q e = rw e (value_done vector s reference bs (length bs) refl events values c events' values' (sym t ∙ not-false m h) p q)
 
 pub ruleset room_laws = (room_lacks, room_left)

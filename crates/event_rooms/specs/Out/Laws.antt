@@ -1,6 +1,7 @@
 -- Rooms whose first bytes are what has been written, and appends that follow one another.
 -- Assumes nothing.
-use Rattle.std.specs.Prelude.{◌≡◌, ℕ, ◌+◌, ◌*◌, ◌≤◌, Bool, true, false, ◌&&◌, leb, take}
+use Rattle.event_rooms.specs.Put.{Put}
+use Rattle.std.specs.Prelude.{◌≡◌, ℕ, ◌+◌, ◌*◌, ◌≤◌, Bool, true, false, ◌&&◌, leb, take, None, Some}
 use Rattle.std.proofs.Math.Path.{refl, sym}
 use Rattle.std.proofs.Common.{ap, ◌∙◌, arith, length-append}
 use Rattle.std.proofs.lemmas.Bool.{false≢true}
@@ -13,8 +14,6 @@ use Rattle.states.specs.declared.States.{States}
 use Rattle.records.specs.declared.Record.TheVariants.{Value}
 use Rattle.slices.specs.Splice.Laws.{length_splice, take_splice}
 use Rattle.event_rooms.specs.declared.Counts.{Counts}
-use Rattle.event_rooms.specs.declared.Put.{Put}
-use Rattle.event_rooms.specs.declared.Put.TheVariants.{Done, Full}
 use Rattle.records.specs.Event.{Event, time, value, real, record_of, record_bytes, event_value, event_steps}
 use Rattle.records.specs.Event.Laws.{length_time, length_value}
 use Rattle.event_rooms.specs.Out.{Rooms, Out, empty, fits, appended, append, append_all}
@@ -88,8 +87,8 @@ counted c n m k = record { events = c.events + n; values = c.values + m; steps =
 
 -- what rooms hold after some events: the answer says whether they fitted
 abbrev pub Comes : Rooms → Option Out → (events values : List ℕ) → Put → Type 0
-Comes r x events values (Done c) = (o : Out) × (x ≡ some o) × Written r events values c o
-Comes r x events values Full = x ≡ none
+Comes r x events values (Some c) = (o : Out) × (x ≡ some o) × Written r events values c o
+Comes r x events values None = x ≡ none
 
 -- from rooms that hold whatever was written before, these events make of them what the definition says
 pub record Appends (es : List Event) (events values : List ℕ) (c : Counts) (events' values' : List ℕ) (p : Put) : Type 0 where
@@ -117,18 +116,18 @@ pub appends_one : {e : Event} {events values : List ℕ} {c : Counts} {events' v
     → (r : Rooms) (o : Out) → Written r events values c o → Comes r (append r o e) events' values' p
 appends_one {e} a r o w = rw (all_one r e o) at (a.comes r o w)
 
-pub appends_nothing : (events values : List ℕ) (c : Counts) → Appends [] events values c events values (Done c)
+pub appends_nothing : (events values : List ℕ) (c : Counts) → Appends [] events values c events values (Some c)
 unfolding append_all
 appends_nothing events values c = record { comes = λ r o w. (o, refl, w) }
 
 module _ {a : List Event} {events values : List ℕ} {c : Counts} {events₁ values₁ : List ℕ} where
   -- some events, and then others
-  pub appends_then : {c₁ : Counts} {b : List Event} {events₂ values₂ : List ℕ} {p : Put} → Appends a events values c events₁ values₁ (Done c₁) → Appends b events₁ values₁ c₁ events₂ values₂ p
+  pub appends_then : {c₁ : Counts} {b : List Event} {events₂ values₂ : List ℕ} {p : Put} → Appends a events values c events₁ values₁ (Some c₁) → Appends b events₁ values₁ c₁ events₂ values₂ p
       → Appends (a ++ b) events values c events₂ values₂ p
   appends_then {b = b} f g = record { comes = λ r o w. rw (all_append r a b (some o), (f.comes r o w).1) (g.comes r (f.comes r o w).0 (f.comes r o w).2) }
 
   -- where some do not fit, no more do
-  pub appends_stop : (b : List Event) {events₂ values₂ : List ℕ} → Appends a events values c events₁ values₁ Full → Appends (a ++ b) events values c events₂ values₂ Full
+  pub appends_stop : (b : List Event) {events₂ values₂ : List ℕ} → Appends a events values c events₁ values₁ None → Appends (a ++ b) events values c events₂ values₂ None
   appends_stop b f = record { comes = λ r o w. all_append r a b (some o) ∙ rw (f.comes r o w) (all_none r b) }
 
 -- ---- an event that fits, and one that does not
@@ -192,12 +191,12 @@ module _ {r : Rooms} {events values : List ℕ} {c : Counts} {o : Out} (w : Writ
           long_values = ap length q ∙ length_splice values c.values (event_value e) fit.1
 
 module _ (e : Event) (events values : List ℕ) (c : Counts) (events' values' : List ℕ) where
-  pub appends_full : room_for_event (length events) (length values) c e ≡ false → Appends (e ∷ []) events values c events' values' Full
+  pub appends_full : room_for_event (length events) (length values) c e ≡ false → Appends (e ∷ []) events values c events' values' None
   appends_full h = record { comes = λ r o w. all_one r e o ∙ append_full w e h }
 
   pub appends_done : room_for_event (length events) (length values) c e ≡ true → events' ≡ splice events c.events (record_bytes (record_of c.values e)) → values' ≡ splice values c.values (event_value e)
       → (c' : Counts) → c'.events ≡ c.events + length (record_bytes (record_of 0 e)) → c'.values ≡ c.values + length (event_value e) → c'.steps ≡ c.steps + event_steps e
-      → Appends (e ∷ []) events values c events' values' (Done c')
+      → Appends (e ∷ []) events values c events' values' (Some c')
   appends_done h p q c' n m k = record { comes = λ r o w. (appended r o e, all_one r e o ∙ append_fits w e h, written_more w e h p q n m k) }
 
 -- a value whose bytes are copied beside its record: the test, the copy and the append in whichever order
@@ -206,12 +205,12 @@ module _ (vector : ℕ) (s : States) (reference : ℕ) (bs : List ℕ) (n : ℕ)
   unfolding record_of
   size = length_value s reference 0 (length bs)
 
-  pub value_full : room_for (length events) (length values) c 13 n ≡ false → Appends (value vector s reference bs ∷ []) events values c events' values' Full
+  pub value_full : room_for (length events) (length values) c 13 n ≡ false → Appends (value vector s reference bs ∷ []) events values c events' values' None
   unfolding event_value
   value_full h = appends_full (value vector s reference bs) events values c events' values' (rw (size, ← long) h)
 
   pub value_done : room_for (length events) (length values) c 13 n ≡ true → events' ≡ splice events c.events (record_bytes (Value s reference c.values n)) → values' ≡ splice values c.values bs
-      → Appends (value vector s reference bs ∷ []) events values c events' values' (Done (counted c 13 n 0))
+      → Appends (value vector s reference bs ∷ []) events values c events' values' (Some (counted c 13 n 0))
   unfolding event_value record_of event_steps
   value_done h p q =
       appends_done (value vector s reference bs) events values c events' values' (rw (size, ← long) h) (p ∙ rw long) q (counted c 13 n 0) (rw size) (rw long) refl

@@ -11,8 +11,7 @@ use Rattle.states.specs.declared.States.{States}
 use Rattle.states.specs.declared.States.TheVariants.{Two, Nine}
 use Rattle.records.specs.declared.Record.{Record}
 use Rattle.records.specs.declared.Record.TheVariants.{Time, Value, Real}
-use Rattle.event_streams.specs.declared.Next.{Next}
-use Rattle.event_streams.specs.declared.Next.TheVariants.{Event, End, Bad}
+use Rattle.event_streams.specs.Next.{Next, Event, End, Bad}
 use Rattle.event_streams.specs.Stream.{event_length, record_at, is_time, in_values, judged, next_event}
 use Rattle.event_streams.specs.Stream.Code.{Known, Whole, known, whole}
 

@@ -5,8 +5,7 @@ use Rattle.std.proofs.Common.{subst, arith}
 use borrow.Author.Tests.{le-leb, leb-true, leb-false, eqb-false}
 use Rattle.slices.specs.Choice.{cond_ind}
 use Rattle.records.specs.declared.Record.{Record}
-use Rattle.event_streams.specs.declared.Next.{Next}
-use Rattle.event_streams.specs.declared.Next.TheVariants.{Event, End, Bad}
+use Rattle.event_streams.specs.Next.{Next, Event, End, Bad}
 use Rattle.event_streams.specs.Stream.{event_length, record_at, is_time, in_values, judged, next_event}
 
 module _ (s : List ℕ) (values : ℕ) (begun : Bool) (i : ℕ) where

@@ -6,8 +6,8 @@ use Rattle.section_heads.proofs.open_cycle.Goals as goal
 pub read_i64-requires : goal.read_i64-requires
 read_i64-requires c = search (cycle_laws, rules)
 
-pub returns-in-Next : goal.returns-in-Next
-returns-in-Next c = search (cycle_laws, rules)
+pub returns-in-Some : goal.returns-in-Some
+returns-in-Some c = search (cycle_laws, rules)
 
-pub returns-in-Short : goal.returns-in-Short
-returns-in-Short c = search (cycle_laws, rules)
+pub returns-in-None : goal.returns-in-None
+returns-in-None c = search (cycle_laws, rules)

@@ -9,14 +9,14 @@ overflow_add-at c = search (directory_laws, rules)
 pub read_u32-requires : goal.read_u32-requires
 read_u32-requires c = search (directory_laws, rules)
 
-pub overflow_add-at-in-Negative : goal.overflow_add-at-in-Negative
-overflow_add-at-in-Negative c = search (directory_laws, rules)
+pub overflow_add-at-in-None-read_u32 : goal.overflow_add-at-in-None-read_u32
+overflow_add-at-in-None-read_u32 c = search (directory_laws, rules)
 
-pub returns-in-Number : goal.returns-in-Number
-returns-in-Number c = search (directory_laws, rules)
+pub returns-in-Some-read_u32 : goal.returns-in-Some-read_u32
+returns-in-Some-read_u32 c = search (directory_laws, rules)
 
-pub returns-in-Negative : goal.returns-in-Negative
-returns-in-Negative c = search (directory_laws, rules)
+pub returns-in-None-read_u32 : goal.returns-in-None-read_u32
+returns-in-None-read_u32 c = search (directory_laws, rules)
 
-pub returns-in-Short : goal.returns-in-Short
-returns-in-Short c = search (directory_laws, rules)
+pub returns-in-None : goal.returns-in-None
+returns-in-None c = search (directory_laws, rules)

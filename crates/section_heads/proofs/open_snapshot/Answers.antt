@@ -18,5 +18,5 @@ returns-then-is_mark c = search (snapshot_laws, rules)
 pub returns-else-is_mark : goal.returns-else-is_mark
 returns-else-is_mark c = search (snapshot_laws, rules)
 
-pub returns-in-Short : goal.returns-in-Short
-returns-in-Short c = search (snapshot_laws, rules)
+pub returns-in-None : goal.returns-in-None
+returns-in-None c = search (snapshot_laws, rules)

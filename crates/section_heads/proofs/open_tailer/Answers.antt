@@ -3,8 +3,8 @@ use Rattle.std.proofs.Common.{rules}
 use Rattle.section_heads.specs.Heads.Code.{tailer_laws}
 use Rattle.section_heads.proofs.open_tailer.Goals as goal
 
-pub returns-in-Next : goal.returns-in-Next
-returns-in-Next c = search (tailer_laws, rules)
+pub returns-in-Some : goal.returns-in-Some
+returns-in-Some c = search (tailer_laws, rules)
 
-pub returns-in-Short : goal.returns-in-Short
-returns-in-Short c = search (tailer_laws, rules)
+pub returns-in-None : goal.returns-in-None
+returns-in-None c = search (tailer_laws, rules)

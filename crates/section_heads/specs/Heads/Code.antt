@@ -1,18 +1,14 @@
 -- What the proofs of the readers of items search.
 -- Assumes nothing.
-use Rattle.std.specs.Prelude.{◌≡◌, Bool, true, false, List, length, replicate}
+use Rattle.std.specs.Prelude.{◌≡◌, Bool, true, false, List, length, replicate, None, Option, Some}
 use Rattle.std.proofs.Math.Path.{sym, ap}
 use Rattle.std.proofs.Common.{◌∙◌, arith, Fits}
 use Prim.Native.Nat.{ℕ, zero, suc, ◌+◌, ◌-◌, ◌^◌, ◌≤◌, ◌<◌}
 use Rattle.std.specs.Int.{w64}
 use Rattle.slices.specs.Splice.{part}
 use Rattle.slices.specs.Field.{field_of, field_next}
-use Rattle.slices.specs.declared.Field.{Field}
-use Rattle.slices.specs.declared.Field.TheVariants as field
 use Rattle.numbers.specs.Fixed.{positive}
 use Rattle.numbers.specs.Marks.{same, eod, section_of}
-use Rattle.numbers.specs.declared.fixed.Positive.{Positive}
-use Rattle.numbers.specs.declared.fixed.Positive.TheVariants as sign
 use Rattle.numbers.specs.declared.marks.Section.{Section}
 use Rattle.numbers.specs.declared.marks.Section.TheVariants as section
 use Rattle.values.specs.declared.How.{How}
@@ -34,36 +30,36 @@ pub ruleset goes_laws = (goes_standing)
 
 -- ---- fields
 
-module _ (s : List ℕ) (i : ℕ) {f : Field} where
-  pub four_inside : f ≡ field_of 4 s i → {j : ℕ} → f ≡ field.Next j → i + 4 ≤ length s
+module _ (s : List ℕ) (i : ℕ) {f : Option ℕ} where
+  pub four_inside : f ≡ field_of 4 s i → {j : ℕ} → f ≡ Some j → i + 4 ≤ length s
   four_inside e d = (field_next 4 s i e d).1
 
-  pub eight_inside : f ≡ field_of 8 s i → {j : ℕ} → f ≡ field.Next j → i + 8 ≤ length s
+  pub eight_inside : f ≡ field_of 8 s i → {j : ℕ} → f ≡ Some j → i + 8 ≤ length s
   eight_inside e d = (field_next 8 s i e d).1
 
-  pub eight_second : f ≡ field_of 8 s i → {j : ℕ} → f ≡ field.Next j → i + 4 + 4 ≤ length s
+  pub eight_second : f ≡ field_of 8 s i → {j : ℕ} → f ≡ Some j → i + 4 + 4 ≤ length s
   eight_second e d = omega (arith, (field_next 8 s i e d).1)
 
-  pub twelve_first : f ≡ field_of 12 s i → {j : ℕ} → f ≡ field.Next j → i + 4 ≤ length s
+  pub twelve_first : f ≡ field_of 12 s i → {j : ℕ} → f ≡ Some j → i + 4 ≤ length s
   twelve_first e d = omega (arith, (field_next 12 s i e d).1)
 
-  pub twelve_second : f ≡ field_of 12 s i → {j : ℕ} → f ≡ field.Next j → i + 4 + 8 ≤ length s
+  pub twelve_second : f ≡ field_of 12 s i → {j : ℕ} → f ≡ Some j → i + 4 + 8 ≤ length s
   twelve_second e d = omega (arith, (field_next 12 s i e d).1)
 
-  pub eight_fits : f ≡ field_of 8 s i → {j : ℕ} → f ≡ field.Next j → j < 2 ^ 64 → Fits w64 (i + 4)
+  pub eight_fits : f ≡ field_of 8 s i → {j : ℕ} → f ≡ Some j → j < 2 ^ 64 → Fits w64 (i + 4)
   eight_fits e d h = omega (arith, (field_next 8 s i e d).0)
 
-  pub twelve_fits : f ≡ field_of 12 s i → {j : ℕ} → f ≡ field.Next j → j < 2 ^ 64 → Fits w64 (i + 4)
+  pub twelve_fits : f ≡ field_of 12 s i → {j : ℕ} → f ≡ Some j → j < 2 ^ 64 → Fits w64 (i + 4)
   twelve_fits e d h = omega (arith, (field_next 12 s i e d).0)
 
 -- ---- an end mark
 
-module _ (mark s : List ℕ) (i : ℕ) {f : Field} (e : f ≡ field_of 4 s i) {r : Item} where
-  pub end_short : f ≡ field.Short → r ≡ bad 7 i → r ≡ end_item mark s i
+module _ (mark s : List ℕ) (i : ℕ) {f : Option ℕ} (e : f ≡ field_of 4 s i) {r : Item} where
+  pub end_short : f ≡ None → r ≡ bad 7 i → r ≡ end_item mark s i
   unfolding end_item within
   end_short d w = w ∙ rw (sym e ∙ d)
 
-  module _ {j : ℕ} (d : f ≡ field.Next j) {m : Bool} (q : m ≡ same (part s i 4) mark) where
+  module _ {j : ℕ} (d : f ≡ Some j) {m : Bool} (q : m ≡ same (part s i 4) mark) where
     pub end_found : m ≡ true → r ≡ passes j Mark 0 → r ≡ end_item mark s i
     unfolding end_item within
     end_found t w = w ∙ rw (sym e ∙ d, sym q ∙ t)
@@ -76,24 +72,24 @@ pub ruleset end_laws = (four_inside, end_short, end_found, end_wrong)
 
 -- ---- what a section opens
 
-module _ (s : List ℕ) (i : ℕ) {f : Field} (e : f ≡ field_of 8 s i) {r : Item} where
-  pub tailer_over : {j : ℕ} → f ≡ field.Next j → r ≡ stops j Over → r ≡ open_tailer s i
+module _ (s : List ℕ) (i : ℕ) {f : Option ℕ} (e : f ≡ field_of 8 s i) {r : Item} where
+  pub tailer_over : {j : ℕ} → f ≡ Some j → r ≡ stops j Over → r ≡ open_tailer s i
   unfolding open_tailer within
   tailer_over d w = w ∙ rw (sym e ∙ d)
 
-  pub tailer_short : f ≡ field.Short → r ≡ bad 7 i → r ≡ open_tailer s i
+  pub tailer_short : f ≡ None → r ≡ bad 7 i → r ≡ open_tailer s i
   unfolding open_tailer within
   tailer_short d w = w ∙ rw (sym e ∙ d)
 
 pub ruleset tailer_laws = (tailer_over, tailer_short)
 
-module _ (how : How) (s : List ℕ) (i : ℕ) {f : Field} {r : Item} where
+module _ (how : How) (s : List ℕ) (i : ℕ) {f : Option ℕ} {r : Item} where
   module _ (e : f ≡ field_of 12 s i) where
-    pub snapshot_short : f ≡ field.Short → r ≡ bad 7 i → r ≡ open_snapshot how s i
+    pub snapshot_short : f ≡ None → r ≡ bad 7 i → r ≡ open_snapshot how s i
     unfolding open_snapshot within
     snapshot_short d w = w ∙ rw (sym e ∙ d)
 
-    module _ {j : ℕ} (d : f ≡ field.Next j) {m : Bool} (q : m ≡ same (part s i 4) (replicate 4 0)) where
+    module _ {j : ℕ} (d : f ≡ Some j) {m : Bool} (q : m ≡ same (part s i 4) (replicate 4 0)) where
       pub snapshot_wrong : m ≡ false → r ≡ bad 9 i → r ≡ open_snapshot how s i
       unfolding open_snapshot within
       snapshot_wrong t w = w ∙ rw (sym e ∙ d, sym q ∙ t)
@@ -103,25 +99,25 @@ module _ (how : How) (s : List ℕ) (i : ℕ) {f : Field} {r : Item} where
       snapshot_opens t z w = w ∙ rw (sym e ∙ d, sym q ∙ t, z)
 
   module _ (e : f ≡ field_of 8 s i) where
-    pub cycle_short : f ≡ field.Short → r ≡ bad 7 i → r ≡ open_cycle how s i
+    pub cycle_short : f ≡ None → r ≡ bad 7 i → r ≡ open_cycle how s i
     unfolding open_cycle within
     cycle_short d w = w ∙ rw (sym e ∙ d)
 
-    pub directory_short : f ≡ field.Short → r ≡ bad 7 i → r ≡ open_directory how s i
+    pub directory_short : f ≡ None → r ≡ bad 7 i → r ≡ open_directory how s i
     unfolding open_directory within
     directory_short d w = w ∙ rw (sym e ∙ d)
 
-    module _ {j : ℕ} (d : f ≡ field.Next j) where
+    module _ {j : ℕ} (d : f ≡ Some j) where
       pub cycle_opens : {u : ℕ} → u ≡ fixed_at how s i 8 → r ≡ begins j u Listed → r ≡ open_cycle how s i
       unfolding open_cycle within
       cycle_opens z w = w ∙ rw (sym e ∙ d, z)
 
-      module _ {p : Positive} (q : p ≡ positive (fixed_at how s (i + 4) 4)) where
-        pub directory_opens : {n : ℕ} → p ≡ sign.Number n → r ≡ passes j Entries n → r ≡ open_directory how s i
+      module _ {p : Option ℕ} (q : p ≡ positive (fixed_at how s (i + 4) 4)) where
+        pub directory_opens : {n : ℕ} → p ≡ Some n → r ≡ passes j Entries n → r ≡ open_directory how s i
         unfolding open_directory within counted
         directory_opens t w = w ∙ rw (sym e ∙ d, sym q ∙ t)
 
-        pub directory_wrong : p ≡ sign.Negative → r ≡ bad 11 (i + 4) → r ≡ open_directory how s i
+        pub directory_wrong : p ≡ None → r ≡ bad 11 (i + 4) → r ≡ open_directory how s i
         unfolding open_directory within counted
         directory_wrong t w = w ∙ rw (sym e ∙ d, sym q ∙ t)
 
@@ -156,12 +152,12 @@ module _ (how : How) (s : List ℕ) (mark i : ℕ) {k : Section} {r : Item} wher
 
 pub ruleset opens_laws = (is_snapshot, is_cycle, is_directory, is_tailer, is_unknown)
 
-module _ (how : How) (s : List ℕ) (i : ℕ) {f : Field} (e : f ≡ field_of 4 s i) {r : Item} where
-  pub section_short : f ≡ field.Short → r ≡ bad 7 i → r ≡ section_item how s i
+module _ (how : How) (s : List ℕ) (i : ℕ) {f : Option ℕ} (e : f ≡ field_of 4 s i) {r : Item} where
+  pub section_short : f ≡ None → r ≡ bad 7 i → r ≡ section_item how s i
   unfolding section_item within
   section_short d w = w ∙ rw (sym e ∙ d)
 
-  pub section_found : {j : ℕ} → f ≡ field.Next j → {k : Section} → k ≡ section_of (part s i 4) → r ≡ opens how s k i j → r ≡ section_item how s i
+  pub section_found : {j : ℕ} → f ≡ Some j → {k : Section} → k ≡ section_of (part s i 4) → r ≡ opens how s k i j → r ≡ section_item how s i
   unfolding section_item within
   section_found d q w = w ∙ rw (q, sym e ∙ d)
 
@@ -178,22 +174,22 @@ module _ (how : How) (s : List ℕ) where
   less_one : (left : ℕ) → (left ≡ 0 → ⊥) → suc (left - 1) ≡ left
   less_one left n = omega (arith, n)
 
-  module _ (left i : ℕ) (n : left ≡ 0 → ⊥) {f : Field} (e : f ≡ field_of 4 s i) {r : Item} where
-    pub entry_short : f ≡ field.Short → r ≡ bad 7 i → r ≡ entry_item how s left i
+  module _ (left i : ℕ) (n : left ≡ 0 → ⊥) {f : Option ℕ} (e : f ≡ field_of 4 s i) {r : Item} where
+    pub entry_short : f ≡ None → r ≡ bad 7 i → r ≡ entry_item how s left i
     unfolding entry_item within
     entry_short d w = w ∙ rw (← less_one left n, sym e ∙ d)
 
-    module _ {j : ℕ} (d : f ≡ field.Next j) {g : Field} (h : g ≡ field_of 4 s j) where
-      pub entry_second : g ≡ field.Short → r ≡ bad 7 j → r ≡ entry_item how s left i
+    module _ {j : ℕ} (d : f ≡ Some j) {g : Option ℕ} (h : g ≡ field_of 4 s j) where
+      pub entry_second : g ≡ None → r ≡ bad 7 j → r ≡ entry_item how s left i
       unfolding entry_item within
       entry_second z w = w ∙ rw (← less_one left n, sym e ∙ d, sym h ∙ z)
 
-      module _ {k : ℕ} (z : g ≡ field.Next k) {p : Positive} (q : p ≡ positive (fixed_at how s j 4)) where
-        pub entry_wrong : p ≡ sign.Negative → r ≡ bad 11 j → r ≡ entry_item how s left i
+      module _ {k : ℕ} (z : g ≡ Some k) {p : Option ℕ} (q : p ≡ positive (fixed_at how s j 4)) where
+        pub entry_wrong : p ≡ None → r ≡ bad 11 j → r ≡ entry_item how s left i
         unfolding entry_item within counted
         entry_wrong t w = w ∙ rw (← less_one left n, sym e ∙ d, sym h ∙ z, sym q ∙ t)
 
-        pub entry_passed : {m : ℕ} → p ≡ sign.Number m → r ≡ passes k Entries (left - 1) → r ≡ entry_item how s left i
+        pub entry_passed : {m : ℕ} → p ≡ Some m → r ≡ passes k Entries (left - 1) → r ≡ entry_item how s left i
         unfolding entry_item within counted
         entry_passed t w = w ∙ (passed ∙ ap (λ x. entry_item how s x i) (less_one left n))
           where

@@ -12,5 +12,5 @@ write_item-requires c = search (value_laws, rules)
 pub returns-else-found-eq0 : goal.returns-else-found-eq0
 returns-else-found-eq0 c = search (value_laws, rules)
 
-pub returns-in-Bad : goal.returns-in-Bad
-returns-in-Bad c = search (value_laws, rules)
+pub returns-in-Err : goal.returns-in-Err
+returns-in-Err c = search (value_laws, rules)

@@ -9,14 +9,14 @@ returns-then-left-eq0 c = search (entry_laws, rules)
 pub read_u32-requires : goal.read_u32-requires
 read_u32-requires c = search (entry_laws, rules)
 
-pub returns-in-Number : goal.returns-in-Number
-returns-in-Number c = search (entry_laws, rules)
+pub returns-in-Some-read_u32 : goal.returns-in-Some-read_u32
+returns-in-Some-read_u32 c = search (entry_laws, rules)
 
-pub returns-in-Negative : goal.returns-in-Negative
-returns-in-Negative c = search (entry_laws, rules)
+pub returns-in-None-read_u32 : goal.returns-in-None-read_u32
+returns-in-None-read_u32 c = search (entry_laws, rules)
 
-pub returns-in-Short-field_at : goal.returns-in-Short-field_at
-returns-in-Short-field_at c = search (entry_laws, rules)
+pub returns-in-None-field_at : goal.returns-in-None-field_at
+returns-in-None-field_at c = search (entry_laws, rules)
 
-pub returns-in-Short : goal.returns-in-Short
-returns-in-Short c = search (entry_laws, rules)
+pub returns-in-None : goal.returns-in-None
+returns-in-None c = search (entry_laws, rules)

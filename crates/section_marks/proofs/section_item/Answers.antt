@@ -6,8 +6,8 @@ use Rattle.section_marks.proofs.section_item.Goals as goal
 pub section_at-requires : goal.section_at-requires
 section_at-requires c = search (section_laws, rules)
 
-pub returns-in-Next : goal.returns-in-Next
-returns-in-Next c = search (section_laws, rules)
+pub returns-in-Some : goal.returns-in-Some
+returns-in-Some c = search (section_laws, rules)
 
-pub returns-in-Short : goal.returns-in-Short
-returns-in-Short c = search (section_laws, rules)
+pub returns-in-None : goal.returns-in-None
+returns-in-None c = search (section_laws, rules)

@@ -8,15 +8,14 @@ use Rattle.numbers.specs.Fixed.{negative}
 use Rattle.leb128.specs.Leb128.{unsigned_tenth, value}
 use Rattle.leb128.specs.Leb128.Laws.{leb_past}
 use Rattle.tables.specs.Lists.{Lists, signals}
-use Rattle.values.specs.declared.Read.{Read}
-use Rattle.values.specs.declared.Read.TheVariants.{Value, Bad}
+use Rattle.values.specs.Read.{Read, Value, Bad}
 use Rattle.values.specs.Value.{on_read, number, unsigned, signed}
 use Rattle.values.specs.Value.Laws.{Ahead, unsigned_ahead, signed_ahead}
 use Rattle.section_scan.specs.Sections.{with_kinds, next_id, next_time}
-use Rattle.section_scan.specs.declared.NextId.{NextId}
-use Rattle.section_scan.specs.declared.NextId.TheVariants as ids
-use Rattle.section_scan.specs.declared.NextTime.{NextTime}
-use Rattle.section_scan.specs.declared.NextTime.TheVariants as times
+use Rattle.section_scan.specs.FoundId.{FoundId}
+use Rattle.section_scan.specs.FoundTime.{FoundTime}
+use Rattle.section_scan.specs.FoundId as ids
+use Rattle.section_scan.specs.FoundTime as times
 
 -- ---- what the readers find
 
@@ -64,12 +63,12 @@ module _ (s : List ℕ) (u i : ℕ) {r : Read} (e : r ≡ signed s i) where
 -- ---- where they end
 
 -- an id is one of a signal, and its delta is not empty
-abbrev pub IdAhead : Lists → List ℕ → ℕ → NextId → Type 0
+abbrev pub IdAhead : Lists → List ℕ → ℕ → FoundId → Type 0
 IdAhead t s i (ids.Id id j) = (1 ≤ id) × (id ≤ length t.kinds) × (i < j) × (j ≤ length s)
 IdAhead t s i (ids.End j) = (i < j) × (j ≤ length s)
 IdAhead t s i (ids.Bad n p) = Unit {0}
 
-abbrev pub TimeAhead : List ℕ → ℕ → NextTime → Type 0
+abbrev pub TimeAhead : List ℕ → ℕ → FoundTime → Type 0
 TimeAhead s i (times.Time u j) = (i < j) × (j ≤ length s)
 TimeAhead s i (times.End j) = (i < j) × (j ≤ length s)
 TimeAhead s i (times.Bad n p) = Unit {0}

@@ -11,16 +11,15 @@ use Rattle.numbers.specs.declared.marks.Section.{Section}
 use Rattle.numbers.specs.declared.marks.Section.TheVariants.{Snapshot, Cycle, Directory, Tailer, Unknown}
 use Rattle.tables.specs.Lists.{Lists, nth, signals}
 use Rattle.values.specs.declared.How.{How}
-use Rattle.values.specs.declared.Read.{Read}
-use Rattle.values.specs.declared.Read.TheVariants.{Value, Bad}
+use Rattle.values.specs.Read.{Read, Value, Bad}
 use Rattle.values.specs.Value.{manner, ordinary, on_read, value}
 use Rattle.values.specs.Value.Manners.{blank_read, without_real, value_blank, value_little}
 use Rattle.rules.specs.Gather.{Act, time, write, step_end}
 use Rattle.rules.specs.Scan.{Scan, say, done, fault, and_then}
-use Rattle.section_scan.specs.declared.NextId.{NextId}
-use Rattle.section_scan.specs.declared.NextId.TheVariants as ids
-use Rattle.section_scan.specs.declared.NextTime.{NextTime}
-use Rattle.section_scan.specs.declared.NextTime.TheVariants as times
+use Rattle.section_scan.specs.FoundId.{FoundId}
+use Rattle.section_scan.specs.FoundTime.{FoundTime}
+use Rattle.section_scan.specs.FoundId as ids
+use Rattle.section_scan.specs.FoundTime as times
 use Rattle.section_scan.specs.Sections.{field, end_mark, each_value, next_id, one_change, change_list, next_time, snapshot, one_step, steps, cycle, entries, directory, one_section, sections, scan_sections}
 
 -- ---- a scan in which each written value is changed, by its id
@@ -97,7 +96,7 @@ module _ (E : ℕ → ℕ → ℕ) where
         read_same id i (value how (nth t.kinds id) s i) (value how' (nth t.kinds id) s i) (alike id i)
         (λ j. each_value t how s count (suc id) j) (λ j. each_value t how' s count (suc id) j) (λ j. each_value_lem count (suc id) j)
 
-    one_change_lem : (x : NextId) (more more' : ℕ → ℕ → Scan) → ((id k : ℕ) → blank (more id k) ≡ blank (more' id k))
+    one_change_lem : (x : FoundId) (more more' : ℕ → ℕ → Scan) → ((id k : ℕ) → blank (more id k) ≡ blank (more' id k))
         → blank (one_change t how s x more) ≡ blank (one_change t how' s x more')
     unfolding one_change
     one_change_lem (ids.Id id j) more more' h =
@@ -113,7 +112,7 @@ module _ (E : ℕ → ℕ → ℕ) where
         one_change_lem (next_id t s id i) (λ id' k. change_list t how s fuel id' k) (λ id' k. change_list t how' s fuel id' k)
         (λ id' k. change_list_lem fuel id' k)
 
-    one_step_lem : (x : NextTime) (more more' : ℕ → ℕ → Scan) → ((u j : ℕ) → blank (more u j) ≡ blank (more' u j))
+    one_step_lem : (x : FoundTime) (more more' : ℕ → ℕ → Scan) → ((u j : ℕ) → blank (more u j) ≡ blank (more' u j))
         → blank (one_step t how s x more) ≡ blank (one_step t how' s x more')
     unfolding one_step blank blank_act
     one_step_lem (times.Time u j) more more' h = ap (say (time u) j) (h u j)

@@ -15,18 +15,17 @@ use Rattle.numbers.specs.declared.marks.Section.{Section}
 use Rattle.numbers.specs.declared.marks.Section.TheVariants.{Snapshot, Cycle, Directory, Tailer, Unknown}
 use Rattle.tables.specs.Lists.{Lists, nth, signals}
 use Rattle.values.specs.declared.How.{How}
-use Rattle.values.specs.declared.Read.{Read}
-use Rattle.values.specs.declared.Read.TheVariants.{Value, Bad}
+use Rattle.values.specs.Read.{Read, Value, Bad}
 use Rattle.values.specs.Value.{on_read, unsigned, signed, value}
 use Rattle.values.specs.Value.Reads.{Reads, unsigned_reads, signed_reads, value_reads}
 use Rattle.rules.specs.Steps.{Stepped}
 use Rattle.rules.specs.Once.{Rising}
 use Rattle.rules.specs.Scan.{Scan, done, fault, acts, and_then, Ends, Faults}
 use Rattle.rules.specs.Scan.Ordered.{Ordered, ordered_steps, ordered_end, ordered_fault, ordered_rising, then_then}
-use Rattle.section_scan.specs.declared.NextId.{NextId}
-use Rattle.section_scan.specs.declared.NextId.TheVariants as ids
-use Rattle.section_scan.specs.declared.NextTime.{NextTime}
-use Rattle.section_scan.specs.declared.NextTime.TheVariants as times
+use Rattle.section_scan.specs.FoundId.{FoundId}
+use Rattle.section_scan.specs.FoundId as ids
+use Rattle.section_scan.specs.FoundTime.{FoundTime}
+use Rattle.section_scan.specs.FoundTime as times
 use Rattle.section_scan.specs.Sections.{field, end_mark, each_value, next_id, one_change, change_list, next_time, snapshot, one_step, steps, cycle, entries, directory, one_section, sections, scan_sections}
 
 -- the numbers with which section bytes are refused
@@ -65,7 +64,7 @@ module _ (t : Lists) (s : List ℕ) where
       read_on (λ sc. Goes (and_then sc k) true m) (value how (nth t.kinds id) s i) _ _ (value_reads how (nth t.kinds id) s i) (λ n p r. r)
       (λ v j. (l, each_value_lem how count (suc id) j id k (omega arith) h))
 
-  IdFound : ℕ → NextId → Type 0
+  IdFound : ℕ → FoundId → Type 0
   IdFound id (ids.Id id' j) = id < id'
   IdFound id (ids.End j) = Unit {0}
   IdFound id (ids.Bad n p) = SectionNumber n
@@ -77,7 +76,7 @@ module _ (t : Lists) (s : List ℕ) where
       (λ d j. cond_ind (eqb d 0) _ _ (IdFound id) (λ e. tt)
       (λ e. cond_ind (leb (id + d) (signals t)) _ _ (IdFound id) (λ l. omega (arith, eqb-false d 0 e)) (λ l. (omega arith, omega arith))))
 
-  one_change_lem : (how : How) (id : ℕ) (x : NextId) (more : ℕ → ℕ → Scan) (k : ℕ → Scan) → IdFound id x → ((j n : ℕ) → Goes (k j) true n)
+  one_change_lem : (how : How) (id : ℕ) (x : FoundId) (more : ℕ → ℕ → Scan) (k : ℕ → Scan) → IdFound id x → ((j n : ℕ) → Goes (k j) true n)
       → ((id' j : ℕ) → Goes (and_then (more id' j) k) true id') → Goes (and_then (one_change t how s x more) k) true id
   unfolding one_change IdFound and_then Ordered
   one_change_lem how id (ids.Id id' j) more k o h rec =
@@ -93,7 +92,7 @@ module _ (t : Lists) (s : List ℕ) where
   -- ---- sections
 
   module _ (how : How) where
-    TimeFound : NextTime → Type 0
+    TimeFound : FoundTime → Type 0
     TimeFound (times.Time u j) = Unit {0}
     TimeFound (times.End j) = Unit {0}
     TimeFound (times.Bad n p) = SectionNumber n
@@ -105,7 +104,7 @@ module _ (t : Lists) (s : List ℕ) where
         (λ d j. cond_ind (negative 64 d) _ _ TimeFound (λ e. tt) (λ e. cond_ind (ltb (u + d) (2 ^ 64)) _ _ TimeFound (λ l. tt) (λ l. (omega arith, omega arith))))
 
     module _ (k : ℕ → Scan) (h : (j : ℕ) → Goes (k j) false 0) where
-      one_step_lem : (x : NextTime) (more : ℕ → ℕ → Scan) → TimeFound x → ((u j : ℕ) → Goes (and_then (more u j) k) true 0) → Goes (and_then (one_step t how s x more) k) false 0
+      one_step_lem : (x : FoundTime) (more : ℕ → ℕ → Scan) → TimeFound x → ((u j : ℕ) → Goes (and_then (more u j) k) true 0) → Goes (and_then (one_step t how s x more) k) false 0
       unfolding one_step TimeFound and_then Ordered
       one_step_lem (times.Time u j) more o rec = rec u j
       one_step_lem (times.End j) more o rec = mark_on ecy j k false 0 h

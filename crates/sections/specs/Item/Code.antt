@@ -6,12 +6,12 @@ use Rattle.std.proofs.Common.{subst, ◌∙◌, arith}
 use borrow.Author.Tests.{lt-ltb, le-ltb, ne_eqb, ltb-true}
 use Rattle.slices.specs.Choice.{cond_ind}
 use Rattle.tables.specs.Lists.{nth}
-use Rattle.values.specs.declared.Read.{Read}
+use Rattle.values.specs.Read.{Read}
 use Rattle.values.specs.Value.{on_read, unsigned, value, signed}
 use Rattle.section_scan.specs.Sections.{with_kinds}
 use Rattle.section_scan.specs.Sections.{next_id, next_time}
 use Rattle.section_scan.specs.Sections.Deltas.{IdAhead, id_ahead, id_bad, id_end, id_found, id_past, time_bad, time_end, time_found, time_past}
-use Rattle.section_scan.specs.declared.NextId.{NextId}
+use Rattle.section_scan.specs.FoundId.{FoundId}
 use Rattle.values.specs.declared.How.{How}
 use Rattle.section_heads.specs.declared.Phase.{Phase}
 use Rattle.section_heads.specs.declared.Phase.TheVariants.{Each, Closing, Between, Entries, Listed}
@@ -19,12 +19,12 @@ use Rattle.section_heads.specs.declared.Stand.{Stand}
 use Rattle.section_heads.specs.declared.Said.TheVariants.{Write, StepEnd}
 use Rattle.section_heads.specs.declared.Item.{Item}
 use Rattle.numbers.specs.Marks.{ecy, esn}
-use Rattle.sections.specs.declared.NextTime.{NextTime}
-use Rattle.values.specs.declared.Read.TheVariants as read
-use Rattle.section_scan.specs.declared.NextId.TheVariants as ids
-use Rattle.sections.specs.declared.NextTime.TheVariants as next
+use Rattle.section_scan.specs.FoundTime.{FoundTime}
+use Rattle.values.specs.Read as read
+use Rattle.section_scan.specs.FoundId as ids
+use Rattle.section_scan.specs.FoundTime as times
 use Rattle.section_heads.specs.Heads.{standing, goes, begins, bad, end_item, entry_item}
-use Rattle.sections.specs.Item.{time_of, time_item, head_of, head_item, in_values, is_each, after_values, id_of, id_in, each_id, next_of, write_item, found_item, value_item, next_item}
+use Rattle.sections.specs.Item.{time_item, head_of, head_item, in_values, is_each, after_values, id_of, id_in, each_id, next_of, write_item, found_item, value_item, next_item}
 
 -- ---- an id
 
@@ -70,7 +70,7 @@ in_ranged : (kinds s : List ℕ) (id i : ℕ) → RangedBy kinds (id_in kinds s 
 unfolding id_in id_of
 in_ranged kinds s id i = go (next_id (with_kinds kinds) s id i) (id_ahead (with_kinds kinds) s id i)
   where
-    go : (c : NextId) → IdAhead (with_kinds kinds) s i c → RangedBy kinds (id_of c)
+    go : (c : FoundId) → IdAhead (with_kinds kinds) s i c → RangedBy kinds (id_of c)
     go (ids.Id id j) h = λ n. record { low = h.0; high = h.1 }
     go (ids.End j) h = λ n. absurd (n refl)
     go (ids.Bad n p) h = tt
@@ -146,36 +146,32 @@ pub ruleset value_laws = (value_id, value_end, value_found, value_bad)
 -- ---- a delta
 
 module _ (s : List ℕ) (u i : ℕ) {r : Read} (e : r ≡ signed s i) where
-  pub to_bad : {n p : ℕ} → r ≡ read.Bad n p → next.Bad p n ≡ time_of (next_time s u i)
-  unfolding time_of
-  to_bad b = ap time_of (time_bad s u i e b)
+  pub to_bad : {n p : ℕ} → r ≡ read.Bad n p → times.Bad n p ≡ next_time s u i
+  to_bad b = time_bad s u i e b
 
   module _ {d j : ℕ} (v : r ≡ read.Value d j) where
-    pub to_end : 0x8000_0000_0000_0000 ≤ d → next.End j ≡ time_of (next_time s u i)
-    unfolding time_of
-    to_end h = ap time_of (time_end s u i e v h)
+    pub to_end : 0x8000_0000_0000_0000 ≤ d → times.End j ≡ next_time s u i
+    to_end h = time_end s u i e v h
 
     module _ (h : d < 0x8000_0000_0000_0000) (k : u < 2 ^ 64) where
-      pub to_found : d ≤ 0xffff_ffff_ffff_ffff - u → next.Time j (u + d) ≡ time_of (next_time s u i)
-      unfolding time_of
-      to_found l = ap time_of (time_found s u i e v h k l)
+      pub to_found : d ≤ 0xffff_ffff_ffff_ffff - u → times.Time (u + d) j ≡ next_time s u i
+      to_found l = time_found s u i e v h k l
 
-      pub to_past : 0xffff_ffff_ffff_ffff - u < d → next.Bad i 15 ≡ time_of (next_time s u i)
-      unfolding time_of
-      to_past l = ap time_of (time_past s u i e v h k l)
+      pub to_past : 0xffff_ffff_ffff_ffff - u < d → times.Bad 15 i ≡ next_time s u i
+      to_past l = time_past s u i e v h k l
 
 pub ruleset to_laws = (to_bad, to_end, to_found, to_past)
 
-module _ (s : List ℕ) {d : NextTime} {c : NextTime} (e : c ≡ d) {r : Item} where
-  pub delta_time : {j u : ℕ} → c ≡ next.Time j u → r ≡ begins j u Listed → r ≡ time_item s d
+module _ (s : List ℕ) {d : FoundTime} {c : FoundTime} (e : c ≡ d) {r : Item} where
+  pub delta_time : {u j : ℕ} → c ≡ times.Time u j → r ≡ begins j u Listed → r ≡ time_item s d
   unfolding time_item
   delta_time g w = w ∙ rw (sym e ∙ g)
 
-  pub delta_end : {j : ℕ} → c ≡ next.End j → r ≡ end_item ecy s j → r ≡ time_item s d
+  pub delta_end : {j : ℕ} → c ≡ times.End j → r ≡ end_item ecy s j → r ≡ time_item s d
   unfolding time_item
   delta_end g w = w ∙ rw (sym e ∙ g)
 
-  pub delta_bad : {p n : ℕ} → c ≡ next.Bad p n → r ≡ bad n p → r ≡ time_item s d
+  pub delta_bad : {p n : ℕ} → c ≡ times.Bad n p → r ≡ bad n p → r ≡ time_item s d
   unfolding time_item
   delta_bad g w = w ∙ rw (sym e ∙ g)
 
@@ -192,7 +188,7 @@ module _ (how : How) (s : List ℕ) (x : Stand) (i : ℕ) {r : Item} where
   unfolding head_item head_of
   head_closing d e = rw d e
 
-  pub head_delta : x.phase ≡ Between → r ≡ time_item s (time_of (next_time s x.time i)) → r ≡ head_item how s x i
+  pub head_delta : x.phase ≡ Between → r ≡ time_item s (next_time s x.time i) → r ≡ head_item how s x i
   unfolding head_item head_of
   head_delta d e = rw d e
 

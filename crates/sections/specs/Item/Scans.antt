@@ -1,6 +1,6 @@
 -- The items of section bytes, one after the other, are what section reading scans.
 -- Assumes nothing.
-use Rattle.std.specs.Prelude.{◌≡◌, Bool, cond, List, replicate, ltb}
+use Rattle.std.specs.Prelude.{◌≡◌, Bool, cond, List, replicate, ltb, None, Some}
 use Rattle.std.proofs.Math.Path.{refl, subst}
 use Rattle.std.proofs.Common.{sym, ap, add-one, leb-true, ltb-true, ltb-false, ne_eqb}
 use Prim.Native.Nat.{ℕ, zero, suc, ◌+◌, ◌-◌, ◌*◌, ◌≤◌, ◌<◌}
@@ -11,25 +11,23 @@ use Rattle.std.proofs.Math.ListN.{length}
 use Rattle.std.proofs.Math.Dec.{leb}
 use Rattle.slices.specs.Splice.{part}
 use Rattle.slices.specs.Field.{field_of}
-use Rattle.slices.specs.declared.Field.TheVariants as fields
-use Rattle.numbers.specs.declared.fixed.Positive.TheVariants as sign
 use Rattle.numbers.specs.Fixed.{negative, positive}
 use Rattle.numbers.specs.Marks.{same, ecy, eod, esn, section_of}
 use Rattle.numbers.specs.declared.marks.Section.{Section}
 use Rattle.numbers.specs.declared.marks.Section.TheVariants as section
 use Rattle.tables.specs.Lists.{Lists, nth, signals}
-use Rattle.values.specs.declared.Read.{Read}
-use Rattle.values.specs.declared.Read.TheVariants as read
+use Rattle.values.specs.Read.{Read}
+use Rattle.values.specs.Read as read
 use Rattle.values.specs.Value.{on_read, value, Suits}
 use Rattle.values.specs.Value.Laws.{Ahead, value_ahead, value_suits}
 use Rattle.rules.specs.Gather.{time, write, step_end}
 use Rattle.rules.specs.Scan.{Scan, say, done, fault, and_then}
 use Rattle.section_scan.specs.Sections.{field, end_mark, each_value, next_id, one_change, change_list, next_time, snapshot, one_step, steps, cycle, entries, directory, one_section, sections, scan_sections}
 use Rattle.section_scan.specs.Sections.Deltas.{IdAhead, id_ahead, id_none, id_same, TimeAhead, time_ahead}
-use Rattle.section_scan.specs.declared.NextId.{NextId}
-use Rattle.section_scan.specs.declared.NextId.TheVariants as ids
-use Rattle.section_scan.specs.declared.NextTime.{NextTime}
-use Rattle.section_scan.specs.declared.NextTime.TheVariants as times
+use Rattle.section_scan.specs.FoundId.{FoundId}
+use Rattle.section_scan.specs.FoundTime.{FoundTime}
+use Rattle.section_scan.specs.FoundId as ids
+use Rattle.section_scan.specs.FoundTime as times
 use Rattle.values.specs.declared.How.{How}
 use Rattle.section_heads.specs.declared.Phase.{Phase}
 use Rattle.section_heads.specs.declared.Phase.TheVariants.{Mark, Entries, Each, Closing, Listed, Between}
@@ -39,7 +37,7 @@ use Rattle.section_heads.specs.declared.Said.TheVariants.{Nothing, Time, Write, 
 use Rattle.section_heads.specs.declared.Item.{Item}
 use Rattle.sections.specs.Item.Code.{IdOf, Stood}
 use Rattle.section_heads.specs.Heads.{standing, goes, passes, begins, bad, within, end_item, counted, fixed_at, open_tailer, open_snapshot, open_cycle, open_directory, opens, section_item, entry_item}
-use Rattle.sections.specs.Item.{time_of, time_item, head_of, head_item, after_values, id_of, id_in, each_id, next_of, write_item, found_item, value_item, next_item}
+use Rattle.sections.specs.Item.{time_item, head_of, head_item, after_values, id_of, id_in, each_id, next_of, write_item, found_item, value_item, next_item}
 
 -- what is said before the rest
 unfoldable pub say_of : Said → (p j : ℕ) → Scan → Scan
@@ -151,7 +149,7 @@ module _ (t : Lists) (how : How) (s : List ℕ) where
   FollowsBy r i sc j y (Write v id) = GoesOn r i sc j (Write v id) y
   FollowsBy r i sc j y StepEnd = GoesOn r i sc j StepEnd y
   FollowsBy r i sc j y Over = sc ≡ done j
-  FollowsBy r i sc j y (Bad n) = sc ≡ fault n j
+  FollowsBy r i sc j y (Bad n) = sc ≡ fault n.0 n.1
 
   abbrev pub Follows : (r i : ℕ) → Scan → Item → Type 0
   Follows r i sc x = FollowsBy r i sc x.at x.then x.said
@@ -188,7 +186,7 @@ module _ (t : Lists) (how : How) (s : List ℕ) where
   unfolding field field_of within
   field_both P n i k' k f g = by (leb (i + n) (length s)) refl
     where
-      by : (b : Bool) → leb (i + n) (length s) ≡ b → P (cond b (k' (i + n)) (fault 7 i)) (within (cond b (fields.Next (i + n)) fields.Short) k i)
+      by : (b : Bool) → leb (i + n) (length s) ≡ b → P (cond b (k' (i + n)) (fault 7 i)) (within (cond b (Some (i + n)) None) k i)
       by true e = f (leb-true _ _ e)
       by false e = g
 
@@ -201,7 +199,7 @@ module _ (t : Lists) (how : How) (s : List ℕ) where
   unfolding positive counted
   counted_both P v i x k f g = by (negative 32 v)
     where
-      by : (b : Bool) → P (cond b (fault 11 i) x) (counted (cond b sign.Negative (sign.Number v)) i k)
+      by : (b : Bool) → P (cond b (fault 11 i) x) (counted (cond b None (Some v)) i k)
       by true = f
       by false = g
 
@@ -294,11 +292,11 @@ module _ (t : Lists) (how : How) (s : List ℕ) where
     -- ---- a delta between steps
 
     delta_follows : (u i f_l f_s f_t : ℕ) → Enough i f_l f_s f_t
-        → Goes i f_t (one_step t how s (next_time s u i) (λ u' e. steps t how s f_s u' e)) (time_item s (time_of (next_time s u i)))
-    unfolding one_step time_item time_of and_then say_of
+        → Goes i f_t (one_step t how s (next_time s u i) (λ u' e. steps t how s f_s u' e)) (time_item s (next_time s u i))
+    unfolding one_step time_item and_then say_of
     delta_follows u i f_l f_s f_t e = by (next_time s u i) (time_ahead s u i)
       where
-        by : (c : NextTime) → TimeAhead s i c → Goes i f_t (one_step t how s c (λ u' e. steps t how s f_s u' e)) (time_item s (time_of c))
+        by : (c : FoundTime) → TimeAhead s i c → Goes i f_t (one_step t how s c (λ u' e. steps t how s f_s u' e)) (time_item s c)
         by (times.Time v j) a =
             let w = enters v i j f_s f_t a.0 e.cycles (omega (arith, a.0, e.all)) in
             on r i _ (Time v) (standing Listed 0 v) j w.0 w.1 f_t 0 a.0 a.1 w.2 (ap (say (time v) j) w.3) tt (λ z. omega arith)
@@ -322,7 +320,7 @@ module _ (t : Lists) (how : How) (s : List ℕ) where
 
     module _ (u id i : ℕ) where
       -- what follows a delta
-      abbrev listed : NextId → Item
+      abbrev listed : FoundId → Item
       listed c = on_read (id_of c) bad (λ id' j. found_item t.kinds how s (standing Listed id u) id' j)
 
       list_follows : (f_l f_s f_t : ℕ) → Enough i f_l f_s f_t → Follows r i (scan_from f_l f_s f_t Listed id u i) (listed (next_id t s id i))
@@ -333,7 +331,7 @@ module _ (t : Lists) (how : How) (s : List ℕ) where
           rest : ℕ → Scan
           rest j = say step_end j (one_step t how s (next_time s u j) (λ u' e. steps t how s f_s u' e))
 
-          by : (c : NextId) → IdAhead t s i c → Goes i f_t (and_then (one_change t how s c (λ id'' k. change_list t how s f_l id'' k)) rest) (listed c)
+          by : (c : FoundId) → IdAhead t s i c → Goes i f_t (and_then (one_change t how s c (λ id'' k. change_list t how s f_l id'' k)) rest) (listed c)
           by (ids.Id d j) a =
               rw (ne_eqb d 0 (λ z. omega (arith, a.0)))
               (value_follows (standing Listed id u) d j j (λ k. change_list t how s f_l d k) rest (λ k. sections t how s f_t k) i

@@ -6,8 +6,8 @@ use Rattle.values.proofs.read_real.Goals as goal
 pub read_i64-requires : goal.read_i64-requires
 read_i64-requires c = search (real_laws, rules)
 
-pub returns-in-Next : goal.returns-in-Next
-returns-in-Next c = search (real_laws, rules)
+pub returns-in-Some : goal.returns-in-Some
+returns-in-Some c = search (real_laws, rules)
 
-pub returns-in-Short : goal.returns-in-Short
-returns-in-Short c = search (real_laws, rules)
+pub returns-in-None : goal.returns-in-None
+returns-in-None c = search (real_laws, rules)

@@ -1,23 +1,20 @@
 -- Laws of values: what the readers of each kind find, and where a value that was found ends.
 -- Assumes nothing.
-use Rattle.std.specs.Prelude.{◌≡◌, ℕ, ◌+◌, ◌^◌, ◌≤◌, ◌<◌, Bool, true, false, cond, List, length, get_or, leb, eqb}
+use Rattle.std.specs.Prelude.{◌≡◌, ℕ, ◌+◌, ◌^◌, ◌≤◌, ◌<◌, Bool, true, false, cond, List, length, get_or, leb, eqb, None, Option, Some}
 use Rattle.std.proofs.Common.{sym, ap, subst, ◌∙◌, arith}
 use borrow.Author.Tests.{le-leb, lt-leb, eq-eqb, ne_eqb, leb-true, leb-false}
 use Rattle.slices.specs.Choice.{cond_ind}
 use Rattle.slices.specs.Field.{field_of, field_next, field_short}
-use Rattle.slices.specs.declared.Field.{Field}
-use Rattle.slices.specs.declared.Field.TheVariants.{Next, Short}
 use Rattle.slices.specs.Splice.{part}
 use Rattle.numbers.specs.Fixed.{fixed}
 use Rattle.leb128.specs.Leb128.{read_unsigned, read_signed}
 use Rattle.leb128.specs.Leb128.Laws.{leb_within, Within}
-use Rattle.leb128.specs.declared.Leb.{Leb}
-use Rattle.leb128.specs.declared.Leb.TheVariants as leb128
+use Rattle.leb128.specs.Leb.{Leb}
+use Rattle.leb128.specs.Leb as leb128
 use Rattle.states.specs.Letters.{mapped}
 use Rattle.states.specs.Letters.Laws.{mapped_most}
 use Rattle.values.specs.declared.How.{How}
-use Rattle.values.specs.declared.Read.{Read}
-use Rattle.values.specs.declared.Read.TheVariants.{Value, Bad}
+use Rattle.values.specs.Read.{Read, Value, Bad}
 use Rattle.values.specs.Value.{number, unsigned, signed, byte_up_to, big_real, real, narrow, value, most_of, Suits}
 
 -- ---- what the readers find
@@ -68,17 +65,17 @@ module _ (how : How) where
   pub real_little : how.reals_by_flag ≡ false → false ≡ big_real how
   real_little e = rw e
 
-module _ (how : How) (s : List ℕ) (i : ℕ) {f : Field} (e : f ≡ field_of 8 s i) where
-  pub real_found : {j : ℕ} → f ≡ Next j → {b : Bool} → b ≡ big_real how → (v : ℕ) → v ≡ fixed b (part s i 8)
+module _ (how : How) (s : List ℕ) (i : ℕ) {f : Option ℕ} (e : f ≡ field_of 8 s i) where
+  pub real_found : {j : ℕ} → f ≡ Some j → {b : Bool} → b ≡ big_real how → (v : ℕ) → v ≡ fixed b (part s i 8)
       → Value v j ≡ real how s i
   unfolding real
   real_found d q v p = let n = field_next 8 s i e d in rw (le-leb (i + 8) (length s) n.1, n.0, p, q)
 
-  pub real_none : f ≡ Short → Bad 7 i ≡ real how s i
+  pub real_none : f ≡ None → Bad 7 i ≡ real how s i
   unfolding real
   real_none d = rw (lt-leb (i + 8) (length s) (field_short 8 s i e d))
 
-pub real_inside : (s : List ℕ) (i : ℕ) {f : Field} → f ≡ field_of 8 s i → {j : ℕ} → f ≡ Next j → i + 8 ≤ length s
+pub real_inside : (s : List ℕ) (i : ℕ) {f : Option ℕ} → f ≡ field_of 8 s i → {j : ℕ} → f ≡ Some j → i + 8 ≤ length s
 real_inside s i e d = (field_next 8 s i e d).1
 
 -- by the kind

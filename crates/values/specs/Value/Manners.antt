@@ -9,8 +9,7 @@ use Rattle.std.proofs.Math.Dec.{leb, eqb}
 use Rattle.slices.specs.Splice.{part}
 use Rattle.numbers.specs.Fixed.{fixed}
 use Rattle.values.specs.declared.How.{How}
-use Rattle.values.specs.declared.Read.{Read}
-use Rattle.values.specs.declared.Read.TheVariants.{Value, Bad}
+use Rattle.values.specs.Read.{Read, Value, Bad}
 use Rattle.values.specs.Value.{manner, ordinary, signed, big_real, real, narrow, value}
 
 -- what was read, its value changed

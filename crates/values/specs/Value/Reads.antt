@@ -3,11 +3,10 @@
 use Rattle.std.specs.Prelude.{ℕ, ◌+◌, ◌≤◌, List, length, get_or, leb, eqb}
 use native.Mathlib.Omega.{arith}
 use Rattle.slices.specs.Choice.{cond_ind}
-use Rattle.leb128.specs.declared.Leb.{Leb}
-use Rattle.leb128.specs.declared.Leb.TheVariants as leb
+use Rattle.leb128.specs.Leb.{Leb}
+use Rattle.leb128.specs.Leb as leb
 use Rattle.values.specs.declared.How.{How}
-use Rattle.values.specs.declared.Read.{Read}
-use Rattle.values.specs.declared.Read.TheVariants.{Value, Bad}
+use Rattle.values.specs.Read.{Read, Value, Bad}
 use Rattle.values.specs.Value.{number, unsigned, signed, byte_up_to, real, narrow, value}
 
 -- up to a place of which `to` holds, or refused with a number that a section's bytes can give
