@@ -7,8 +7,7 @@ use mathlib.Core.List.{List}
 use Rattle.section_heads.specs.declared.Item.{Item}
 use Rattle.section_heads.specs.declared.Said.{Said}
 use Rattle.section_heads.specs.declared.Said.TheVariants as said
-use Rattle.changes.specs.declared.Change.{Change}
-use Rattle.changes.specs.declared.Change.TheVariants.{Time, Write, StepEnd, End, Bad}
+use Rattle.changes.specs.Change.{ChangeFound, Time, Write, StepEnd, End, Bad}
 use Rattle.changes.specs.Changes.{next_change}
 use Rattle.changes.specs.Changes.Record.{of_kinds}
 use Rattle.changes.specs.Changes.Items.{item_of, record_item}
@@ -19,7 +18,7 @@ use Rattle.change_readings.specs.Records.Laws.{is_mid}
 abbrev Mid : Said → Type 0
 Mid a = ((u : ℕ) → a ≡ said.Time u → ⊥) × (a ≡ said.Over → ⊥)
 
-mid_by : (k : Change) → Mid (item_of k).said → is_mid (item_of k).said ≡ true
+mid_by : (k : ChangeFound) → Mid (item_of k).said → is_mid (item_of k).said ≡ true
 unfolding item_of
 mid_by (Time u j) h = absurd (h.0 u refl)
 mid_by (Write id v j) h = refl

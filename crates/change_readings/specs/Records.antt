@@ -1,10 +1,9 @@
 -- Change records, one turn after the other: what each asks, and that what is left to be run after it is what was left before.
 -- Assumes nothing.
-use Rattle.std.specs.Prelude.{ℕ, ◌-◌, ◌<◌, ◌≤◌, ◌≡◌, Bool, true, false, List, length}
+use Rattle.event_rooms.specs.Put.{Put}
+use Rattle.std.specs.Prelude.{ℕ, ◌-◌, ◌<◌, ◌≤◌, ◌≡◌, Bool, true, false, List, length, None, Some}
 use Rattle.tables.specs.Lists.{Lists}
 use Rattle.rules.specs.Gather.{State}
-use Rattle.event_rooms.specs.declared.Put.{Put}
-use Rattle.event_rooms.specs.declared.Put.TheVariants as put
 use Rattle.event_rooms.specs.Out.{Rooms, Out}
 use Rattle.rules.specs.Scan.{Scan, done}
 use Rattle.gather.specs.Memory.{Holds, Mem, Tabled}
@@ -37,8 +36,8 @@ abbrev pub refused : (n p : ℕ) → Gathered → Step
 refused n p g = record { end = end.Out; inside = false; at = p; number = n; g = g }
 
 abbrev pub opened_by : ℕ → Gathered → Put → Step
-opened_by at g (put.Done n) = more true at (counting g n)
-opened_by at g put.Full = refused 16 at g
+opened_by at g (Some n) = more true at (counting g n)
+opened_by at g None = refused 16 at g
 
 abbrev pub acted_by : Place → Acted → Tag → Step
 acted_by p w tag.On = more true w.at w.g

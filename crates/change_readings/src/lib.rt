@@ -8,7 +8,7 @@ ghost use Rattle.item_turns.specs.Lent.{tables, lent, before, after};
 ghost use Rattle.change_readings.specs.Records.{opened_by, acted_by, RecordAsks, Records};
 
 use changes::record_item;
-use event_rooms::{Put, time_change};
+use event_rooms::{Counts, time_change};
 use gather::{Gathered, Part};
 use item_acts::{Acted, Tag, act_item};
 use item_turns::{Bytes, KINDS, Numbers};
@@ -43,11 +43,11 @@ struct Step {
 }
 
 // After a time, whose record ends at `at`.
-fn opened(at: usize, g: Gathered, put: Put) -> Step
+fn opened(at: usize, g: Gathered, put: Option<Counts>) -> Step
     ensures { result ≡ opened_by at g put }
 {
     match put {
-        Put::Done(counts) => Step {
+        Some(counts) => Step {
             end: End::More,
             inside: true,
             at,
@@ -58,7 +58,7 @@ fn opened(at: usize, g: Gathered, put: Put) -> Step
                 counts,
             },
         },
-        Put::Full => Step {
+        None => Step {
             end: End::Out,
             inside: false,
             at,

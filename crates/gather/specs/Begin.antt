@@ -6,7 +6,7 @@ use Rattle.std.proofs.Math.ListN.{length-replicate}
 use Rattle.slices.specs.Choice.{le_or_lt}
 use Rattle.slices.specs.Splice.{splice}
 use Rattle.slices.specs.Splice.Laws.{length_splice, get_d_within, get_d_behind}
-use Rattle.tables.specs.declared.Check.TheVariants.{Passed}
+use Rattle.tables.specs.Check.{Passed}
 use Rattle.tables.specs.Lists.{Lists, vectors}
 use Rattle.tables.specs.Layout.{Layout, layout_of, start, total_bytes}
 use Rattle.tables.specs.Checks.{checks}

@@ -1,7 +1,7 @@
-pub mod Run
-pub mod Memory
+pub mod Begin
 pub mod Follows
 pub mod Makes
-pub mod Writes
+pub mod Memory
 pub mod Quiet
-pub mod Begin
+pub mod Run
+pub mod Writes

@@ -1,5 +1,6 @@
 -- The last arm of a match on what is said, which names no variant: what it leaves.
 -- Assumes nothing.
+use Rattle.refusals.specs.Numbers.{Numbered}
 use mathlib.Core.Path.{◌≡◌, refl}
 use Prim.Native.Nat.{ℕ}
 use Rattle.section_heads.specs.declared.Said.{Said}
@@ -9,7 +10,7 @@ use Rattle.item_acts.specs.declared.Stage.TheVariants as stage
 use Rattle.item_acts.specs.Acts.{stage_of}
 use Rattle.item_acts.specs.Acts.Code as code
 
-pub other_more : (a : Said) (g : Gathered) → (a ≡ StepEnd → ⊥) → ((n : ℕ) → a ≡ Bad n → ⊥) → stage.More ≡ stage_of a g
+pub other_more : (a : Said) (g : Gathered) → (a ≡ StepEnd → ⊥) → ((n : Numbered) → a ≡ Bad n → ⊥) → stage.More ≡ stage_of a g
 unfolding stage_of
 other_more Nothing g e b = refl
 other_more (Time u) g e b = refl

@@ -90,7 +90,7 @@ pub record Closes (t : Lists) (m : Mem) (c : Gathered) (x : Item) (m' : Mem) (c'
 -- an event does not fit, or the input is refused
 pub data Refusal (t : Lists) (m : Mem) (c : Gathered) (x : Item) : (n p : ℕ) → Type 0 where
   full : is_act x.said ≡ true → Fills t m c x → Refusal t m c x 16 x.at
-  bad : {n : ℕ} → x.said ≡ Bad n → Refusal t m c x n x.at
+  bad : {n p : ℕ} → x.said ≡ Bad (n, p) → Refusal t m c x n p
 
 abbrev pub ActsBy : Lists → List ℕ → Mem → Gathered → Item → Mem → Acted → Tag → Type 0
 ActsBy t s m c x m' w tag.On = Done t s m c x m' (goes_on w.at w.id w.g)
@@ -109,7 +109,7 @@ SaysBy L x sc (Time u) = ⊥
 SaysBy L x sc (Write v id) = (pos : ℕ) × Says (act_of x.said pos) x.at L sc
 SaysBy L x sc StepEnd = (pos : ℕ) × Says (act_of x.said pos) x.at L sc
 SaysBy L x sc Over = ⊥
-SaysBy L x sc (Bad n) = sc ≡ fault n x.at
+SaysBy L x sc (Bad n) = sc ≡ fault n.0 n.1
 
 -- an act is said and then what `L` says is left, or a refusal
 pub record SaidAt (L : Scan → Type 0) (x : Item) (sc : Scan) : Type 0 where

@@ -1,14 +1,13 @@
 -- A reading goes from place to place. What is left of its scan at a place is some predicate of scans: of a move, whatever is left at the first place runs as
 -- what is then left at the second.
 -- Assumes nothing.
-use Rattle.std.specs.Prelude.{ℕ, ◌≡◌, List, [], ◌∷◌}
+use Rattle.event_rooms.specs.Put.{Put}
+use Rattle.std.specs.Prelude.{ℕ, ◌≡◌, List, [], ◌∷◌, None, Some}
 use Rattle.std.proofs.Common.{sym, subst}
 use Rattle.tables.specs.Lists.{Lists}
 use Rattle.rules.specs.Gather.{Act, time, does}
 use Rattle.records.specs.Event as event
 use Rattle.event_rooms.specs.declared.Counts.{Counts}
-use Rattle.event_rooms.specs.declared.Put.{Put}
-use Rattle.event_rooms.specs.declared.Put.TheVariants as put
 use Rattle.event_rooms.specs.Out.Laws.{Appends}
 use Rattle.rules.specs.Scan.{Scan, say}
 use Rattle.gather.specs.Run.{fitted, events_of, acted, after, run}
@@ -60,7 +59,7 @@ abbrev pub counting : Gathered → Counts → Gathered
 counting c n = record { ended = c.ended; listed = c.listed; counts = n }
 
 module _ (t : Lists) (room list : List ℕ) {events values : List ℕ} {c : Gathered} {u : ℕ} {events' : List ℕ} {q : Put} (f : Appends (event.time u ∷ []) events values c.counts events' values q) (p : ℕ) where
-  pub time_leads : {n : Counts} → q ≡ put.Done n → (rest : Scan) → Leads t (mem_of room list events values) c (say (time u) p rest) (mem_of room list events' values) (counting c n) rest
+  pub time_leads : {n : Counts} → q ≡ Some n → (rest : Scan) → Leads t (mem_of room list events values) c (say (time u) p rest) (mem_of room list events' values) (counting c n) rest
   unfolding run acted after events_of does fitted
   time_leads d rest =
       record {
@@ -69,11 +68,11 @@ module _ (t : Lists) (room list : List ℕ) {events values : List ℕ} {c : Gath
             (g, k.0, record { stands = h.stands; clean = h.clean; written = k.2 }, rw k.1);
       }
 
-  pub time_quits : q ≡ put.Full → (rest : Scan) → Quits t (mem_of room list events values) c (say (time u) p rest) 16 p
+  pub time_quits : q ≡ None → (rest : Scan) → Quits t (mem_of room list events values) c (say (time u) p rest) 16 p
   unfolding run acted after events_of does fitted
   time_quits d rest = record { quits = λ r g o h. let k = (rw d at f).comes r o h.written in rw k }
 
-  pub time_moves : {n : Counts} → q ≡ put.Done n → {L : Scan → Type 0} → Moves t (mem_of room list events values) c (Says (time u) p L) (mem_of room list events' values) (counting c n) L
+  pub time_moves : {n : Counts} → q ≡ Some n → {L : Scan → Type 0} → Moves t (mem_of room list events values) c (Says (time u) p L) (mem_of room list events' values) (counting c n) L
   time_moves {n} d =
       record {
         moves = λ sc l. (
@@ -83,5 +82,5 @@ module _ (t : Lists) (room list : List ℕ) {events values : List ℕ} {c : Gath
         );
       }
 
-  pub time_refuses : q ≡ put.Full → {L : Scan → Type 0} → Refuses t (mem_of room list events values) c (Says (time u) p L) 16 p
+  pub time_refuses : q ≡ None → {L : Scan → Type 0} → Refuses t (mem_of room list events values) c (Says (time u) p L) 16 p
   time_refuses d = record { refuses = λ sc l. subst (λ (v : Scan). Quits t (mem_of room list events values) c v 16 p) (sym l.scans) (time_quits d l.rest) }

@@ -7,6 +7,7 @@ ghost use Rattle.item_acts.specs.Acts.{stage_of, moved_by, ActAsks, Acts};
 
 use gather::Gathered;
 use item_turns::{Bytes, Ended, Numbers, Went, turn_item};
+use refusals::Refusal;
 use section_heads::{Item, Said};
 use vector_turns::all_ended;
 
@@ -17,7 +18,7 @@ enum Stage {
     More,
     // Nothing: the step's end has come to each vector listed.
     Over,
-    Bad(u64),
+    Bad(Refusal),
 }
 
 // How it ended.
@@ -46,7 +47,7 @@ fn stage_of(said: Said, g: Gathered) -> Stage
     ensures { result ≡ stage_of said g }
 {
     match said {
-        Said::Bad(number) => Stage::Bad(number),
+        Said::Bad(refusal) => Stage::Bad(refusal),
         Said::StepEnd => {
             if all_ended(g) {
                 return Stage::Over;
@@ -103,24 +104,25 @@ pub fn act_item<'a>(
     ensures { let t = tables b.entry n.entry in
         Acts t s.now (before room list events values) g item (after room list events values) result }
 {
-    let said = item.said;
-    match stage_of(said, g) {
+    let end = item.at;
+    let stage = stage_of(item.said, g);
+    match stage {
         Stage::More => {
             let w = turn_item(b, n, s, room, list, events, values, g, item);
-            moved(item.at, w)
+            moved(end, w)
         }
         Stage::Over => Acted {
             tag: Tag::Over,
-            at: item.at,
+            at: end,
             id: 0,
             number: 0,
             g,
         },
-        Stage::Bad(number) => Acted {
+        Stage::Bad(refusal) => Acted {
             tag: Tag::Out,
-            at: item.at,
+            at: refusal.place(),
             id: 0,
-            number,
+            number: refusal.number(),
             g,
         },
     }

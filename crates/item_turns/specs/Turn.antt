@@ -1,11 +1,10 @@
 -- A turn over an item: what it asks, and what is left to be run after it.
 -- Assumes nothing.
-use Rattle.std.specs.Prelude.{ℕ, ◌+◌, ◌-◌, ◌<◌, ◌≤◌, ◌≡◌, Bool, true, false, cond, List, [], ◌∷◌, length, get_or}
+use Rattle.std.specs.Prelude.{ℕ, ◌+◌, ◌-◌, ◌<◌, ◌≤◌, ◌≡◌, Bool, true, false, cond, List, [], ◌∷◌, length, get_or, None, Some}
 use Rattle.tables.specs.Lists.{Lists, nth}
 use Rattle.tables.specs.Layout.{layout_of}
 use Rattle.rules.specs.Gather.{State}
 use Rattle.event_rooms.specs.declared.Counts.{Counts}
-use Rattle.event_rooms.specs.declared.Put.TheVariants as put
 use Rattle.event_rooms.specs.Out.{Rooms, Out}
 use Rattle.event_rooms.specs.Out.Laws.{Appends}
 use Rattle.vecmarks.specs.Info.{info_at}
@@ -52,7 +51,7 @@ pub record Looking (t : Lists) (list : List ℕ) (c : Gathered) (a : Said) : Typ
 
 -- an event where it is due
 unfoldable pub show_due : Bool → VecInfo → Counts → (room events values : List ℕ) → Made
-show_due due x n room events values = cond due (show_vector x n room events values) (turn.mk room events values (put.Done n))
+show_due due x n room events values = cond due (show_vector x n room events values) (turn.mk room events values (Some n))
 
 pub record FollowAsks (room : List ℕ) (x : VecInfo) (bit : ℕ) (item : Item) : Type 0 where
   pub along : AlongAsks room x bit
@@ -135,7 +134,7 @@ pub record PlainAsks (t : Lists) (events values : List ℕ) (c : Gathered) (x : 
 
 -- its event is made, or does not fit
 pub data PlainTurns (t : Lists) (c : Gathered) (x : Item) (events values events' values' : List ℕ) : Went → Type 0 where
-  made : (v id : ℕ) → x.said ≡ Write v id → {n : Counts} → Appends (alone (nth t.kinds id) (nth t.refs id) v ∷ []) events values c.counts events' values' (put.Done n)
+  made : (v id : ℕ) → x.said ≡ Write v id → {n : Counts} → Appends (alone (nth t.kinds id) (nth t.refs id) v ∷ []) events values c.counts events' values' (Some n)
       → PlainTurns t c x events values events' values' (goes_on x.at x.then.id (record { ended = c.ended; listed = c.listed; counts = n }))
-  full : (v id : ℕ) → x.said ≡ Write v id → Appends (alone (nth t.kinds id) (nth t.refs id) v ∷ []) events values c.counts events' values' put.Full
+  full : (v id : ℕ) → x.said ≡ Write v id → Appends (alone (nth t.kinds id) (nth t.refs id) v ∷ []) events values c.counts events' values' None
       → PlainTurns t c x events values events' values' (stays Full c)

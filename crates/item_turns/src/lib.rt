@@ -8,7 +8,7 @@ ghost use Rattle.item_turns.specs.Lent.{tables, lent, before, after};
 ghost use Rattle.item_turns.specs.Turn.{goes_on, stays, Looking, info_of, show_due, FollowAsks, Followed, GoAsks, Gone, PlainAsks, PlainTurns, TurnAsks, VectorAsks, Turns};
 
 use along::read_along;
-use event_rooms::{Counts, Put};
+use event_rooms::Counts;
 use gather::{Gathered, VecInfo, vec_info};
 use plain_writes::write_plain;
 use section_heads::{Item, Phase, Said};
@@ -98,7 +98,7 @@ fn show_due(
     counts: Counts,
     x: VecInfo,
     due: bool,
-) -> Put
+) -> Option<Counts>
     requires { Showing room.old events.old values.old counts x }
     ensures { Made.mk room.new events.new values.new result
         ≡ show_due due x counts room.old events.old values.old }
@@ -106,7 +106,7 @@ fn show_due(
     if due {
         return show(room, events, values, counts, x);
     }
-    Put::Done(counts)
+    Some(counts)
 }
 
 // After a write to bit `bit` of a vector: the changes that follow along it in a change list.
@@ -162,12 +162,11 @@ fn turn_vector<'a>(
     ensures { let t = tables b.entry n.entry in
         Turns t s.now (before room list events values) c item (after room list events values) result }
 {
-    let said = item.said;
     let maxs = n[MAXS];
-    let x = vector_info(b, n, list, c, said);
-    let t = turn(room, list, maxs, x, c, said);
+    let x = vector_info(b, n, list, c, item.said);
+    let t = turn(room, list, maxs, x, c, item.said);
     match show_due(room, events, values, c.counts, x, t.due) {
-        Put::Done(counts) => {
+        Some(counts) => {
             let g = Gathered {
                 ended: t.ended,
                 listed: t.listed,
@@ -175,7 +174,7 @@ fn turn_vector<'a>(
             };
             go_on(s, room, maxs, x, item, g, t.over)
         }
-        Put::Full => stays(Ended::Full, c),
+        None => stays(Ended::Full, c),
     }
 }
 
@@ -200,7 +199,7 @@ fn plain_item<'a>(
         Said::Write { value, id } => match write_plain(
             kinds, refs, events, values, c.counts, id, value,
         ) {
-            Put::Done(counts) => goes_on(
+            Some(counts) => goes_on(
                 item.at,
                 then.id,
                 Gathered {
@@ -209,7 +208,7 @@ fn plain_item<'a>(
                     counts,
                 },
             ),
-            Put::Full => stays(Ended::Full, c),
+            None => stays(Ended::Full, c),
         },
         _ => stays(Ended::Stay, c),
     }

@@ -9,7 +9,7 @@ ghost use Rattle.gather.specs.Run.{alone};
 ghost use Rattle.gather.specs.Writes.{Alone};
 ghost use Rattle.plain_writes.specs.Plain.{plain_states, plain_value, Fitting, Plain, AloneAt};
 
-use event_rooms::{Counts, Put, append_value, room_for};
+use event_rooms::{Counts, append_value, room_for};
 use numbers::house::put_u64;
 use states::States;
 
@@ -45,17 +45,17 @@ fn plain_change(
     kind: u8,
     reference: u32,
     value: u64,
-) -> Put
+) -> Option<Counts>
     requires { Plain events.old values.old counts kind value }
     ensures { Appends (alone kind reference value ∷ [])
         events.old values.old counts events.new values.new result }
 {
     let n = plain_bytes(kind, value);
     if !room_for(events.len(), values.len(), counts, 13, n) {
-        return Put::Full;
+        return None;
     }
     put_plain(values, counts.values, kind, value);
-    Put::Done(append_value(events, counts, plain_states(kind), reference, n))
+    Some(append_value(events, counts, plain_states(kind), reference, n))
 }
 
 // The event of a signal outside vectors.
@@ -66,7 +66,7 @@ fn write_alone(
     kind: u8,
     reference: u32,
     value: u64,
-) -> Put
+) -> Option<Counts>
     requires { Alone events.old values.old counts kind value }
     ensures { Appends (alone kind reference value ∷ [])
         events.old values.old counts events.new values.new result }
@@ -86,7 +86,7 @@ pub fn write_plain(
     counts: Counts,
     id: usize,
     value: u64,
-) -> Put
+) -> Option<Counts>
     requires { AloneAt kinds.now refs.now events.old values.old counts id value }
     ensures { Appends (alone (nth kinds.now id) (nth refs.now id) value ∷ [])
         events.old values.old counts events.new values.new result }

@@ -1,6 +1,6 @@
 -- Writes that follow one another along the bits of one vector, and make no event: what the code of each asks and leaves.
 -- Assumes nothing.
-use Rattle.std.specs.Prelude.{◌≡◌, ℕ, ◌+◌, ◌-◌, ◌≤◌, ◌<◌, Bool, false, cond, ◌&&◌, List, get_or, ltb, leb}
+use Rattle.std.specs.Prelude.{◌≡◌, ℕ, ◌+◌, ◌-◌, ◌≤◌, ◌<◌, Bool, false, cond, ◌&&◌, List, get_or, ltb, leb, None, Option, Some}
 use Rattle.std.proofs.Common.{◌∙◌, arith}
 use Rattle.std.proofs.Math.Decide.{ℕ_discrete}
 use Rattle.std.proofs.Math.ListN.{length}
@@ -15,15 +15,13 @@ use Rattle.tables.specs.Layout.Laws.{state_is}
 use Rattle.tables.specs.Checks.Laws.{nth_less}
 use Rattle.tables.specs.Good.{Bit}
 use Rattle.values.specs.declared.How.{How}
-use Rattle.values.specs.declared.Read.{Read}
+use Rattle.values.specs.Read.{Read}
 use Rattle.values.specs.Value.{byte_up_to, value, most_of, Suits}
 use Rattle.values.specs.Value.Laws.{narrow_nine, narrow_two, value_narrow}
 use Rattle.vecmarks.specs.declared.VecBufferInfo.{VecBufferInfo}
 use Rattle.vecmarks.specs.Info.{is_marked, with_bit}
 use Rattle.gather.specs.Memory.{Tabled}
 use Rattle.rules.specs.Scan.{say}
-use Rattle.quiet_changes.specs.declared.Short.{Short}
-use Rattle.quiet_changes.specs.declared.Short.TheVariants as short
 pub mod Code
 
 -- ---- one change
@@ -41,8 +39,8 @@ abbrev pub bit_map : States → ℕ → ℕ
 bit_map Two b = b
 bit_map Nine b = mapped b
 
-abbrev pub short_of : States → ℕ → Short
-short_of k b = cond (leb b (bit_most k)) (short.Bit (bit_map k b)) short.Other
+abbrev pub short_of : States → ℕ → Option ℕ
+short_of k b = cond (leb b (bit_most k)) (Some (bit_map k b)) None
 
 -- a delta and a value were taken, and the bit was stored
 pub record Taken (i : VecBufferInfo) (s : List ℕ) (left at : ℕ) (room room' : List ℕ) (d : ℕ) : Type 0 where

@@ -9,13 +9,6 @@ use slices::usize_of_byte;
 use states::{States, std_logic};
 use vecmarks::{VecBufferInfo, write_new};
 
-// A change of one byte of delta to a bit, by its value; or any other.
-#[derive(Clone, Copy)]
-enum Short {
-    Bit(u8),
-    Other,
-}
-
 // Whether a delta has one byte and leads to a bit above 0, of `left` bits that are left.
 fn short_delta(left: usize, d: u8) -> bool
     ensures { result ≡ is_short left d }
@@ -29,18 +22,12 @@ fn short_delta(left: usize, d: u8) -> bool
     usize_of_byte(d) < left
 }
 
-fn short_value(kind: States, b: u8) -> Short
+fn short_value(kind: States, b: u8) -> Option<u8>
     ensures { result ≡ short_of kind b }
 {
     match kind {
-        States::Two => { if b <= 1 { Short::Bit(b) } else { Short::Other } }
-        States::Nine => {
-            if b <= 8 {
-                Short::Bit(std_logic(b))
-            } else {
-                Short::Other
-            }
-        }
+        States::Two => { if b <= 1 { Some(b) } else { None } }
+        States::Nine => { if b <= 8 { Some(std_logic(b)) } else { None } }
     }
 }
 
@@ -72,7 +59,7 @@ pub fn take_change(
         return 0;
     }
     match short_value(kind, s[at + 1]) {
-        Short::Bit(value) => {
+        Some(value) => {
             let x = VecBufferInfo {
                 start: info.start,
                 bytes: info.bytes,
@@ -81,6 +68,6 @@ pub fn take_change(
             };
             store_down(room, x, left, usize_of_byte(d), value)
         }
-        Short::Other => 0,
+        None => 0,
     }
 }

@@ -1,18 +1,14 @@
 -- What items between steps say: nothing, or a time, after which values follow; and what is left behind them.
 -- Assumes nothing.
 use Prim.Native.Nat.{ℕ, zero, suc, ◌+◌}
-use Rattle.std.specs.Prelude.{◌≡◌, true, false, List, replicate}
+use Rattle.std.specs.Prelude.{◌≡◌, true, false, List, replicate, None, Option, Some}
 use Rattle.std.proofs.Math.Path.{refl}
 use Rattle.std.proofs.Common.{subst}
 use Rattle.slices.specs.Choice.{cond_ind}
 use Rattle.slices.specs.Splice.{part}
 use Rattle.slices.specs.Field.{field_of}
-use Rattle.slices.specs.declared.Field.{Field}
-use Rattle.slices.specs.declared.Field.TheVariants as field
 use Rattle.numbers.specs.Fixed.{positive}
 use Rattle.numbers.specs.Marks.{same, ecy, eod, esn, section_of}
-use Rattle.numbers.specs.declared.fixed.Positive.{Positive}
-use Rattle.numbers.specs.declared.fixed.Positive.TheVariants as sign
 use Rattle.numbers.specs.declared.marks.Section.{Section}
 use Rattle.numbers.specs.declared.marks.Section.TheVariants as section
 use Rattle.tables.specs.Lists.{Lists}
@@ -26,9 +22,9 @@ use Rattle.section_heads.specs.declared.Said.{Said}
 use Rattle.section_heads.specs.declared.Said.TheVariants.{Nothing, Time, Write, StepEnd, Over, Bad}
 use Rattle.section_heads.specs.declared.Item.{Item}
 use Rattle.section_heads.specs.Heads.{within, end_item, counted, fixed_at, open_tailer, open_snapshot, open_cycle, open_directory, opens, section_item, entry_item}
-use Rattle.sections.specs.declared.NextTime.{NextTime}
-use Rattle.sections.specs.declared.NextTime.TheVariants as next
-use Rattle.sections.specs.Item.{time_of, time_item, head_of, head_item, in_values, next_item}
+use Rattle.section_scan.specs.FoundTime.{FoundTime}
+use Rattle.section_scan.specs.FoundTime as times
+use Rattle.sections.specs.Item.{time_item, head_of, head_item, in_values, next_item}
 use Rattle.sections.specs.Item.Scans.{rank, Left, Follows, item_follows}
 
 -- nothing, or a time, after which values follow
@@ -43,15 +39,15 @@ HeadBy (Bad n) y = Unit {0}
 abbrev pub IsHead : Item → Type 0
 IsHead y = HeadBy y.said y.then
 
-within_says : (f : Field) (k : ℕ → Item) (i : ℕ) → ((j : ℕ) → IsHead (k j)) → IsHead (within f k i)
+within_says : (f : Option ℕ) (k : ℕ → Item) (i : ℕ) → ((j : ℕ) → IsHead (k j)) → IsHead (within f k i)
 unfolding within
-within_says (field.Next j) k i h = h j
-within_says field.Short k i h = tt
+within_says (Some j) k i h = h j
+within_says None k i h = tt
 
-counted_says : (p : Positive) (i : ℕ) (k : ℕ → Item) → ((n : ℕ) → IsHead (k n)) → IsHead (counted p i k)
+counted_says : (p : Option ℕ) (i : ℕ) (k : ℕ → Item) → ((n : ℕ) → IsHead (k n)) → IsHead (counted p i k)
 unfolding counted
-counted_says (sign.Number n) i k h = h n
-counted_says sign.Negative i k h = tt
+counted_says (Some n) i k h = h n
+counted_says None i k h = tt
 
 module _ (how : How) (s : List ℕ) where
   end_says : (mark : List ℕ) (i : ℕ) → IsHead (end_item mark s i)
@@ -88,11 +84,11 @@ module _ (how : How) (s : List ℕ) where
   entry_says (suc left) i =
       within_says (field_of 4 s i) _ i (λ j. within_says (field_of 4 s j) _ j (λ k. counted_says (positive (fixed_at how s j 4)) j _ (λ n. refl)))
 
-  time_says : (c : NextTime) → IsHead (time_item s c)
+  time_says : (c : FoundTime) → IsHead (time_item s c)
   unfolding time_item
-  time_says (next.Time j u) = (refl, refl, refl)
-  time_says (next.End j) = end_says ecy j
-  time_says (next.Bad p n) = tt
+  time_says (times.Time u j) = (refl, refl, refl)
+  time_says (times.End j) = end_says ecy j
+  time_says (times.Bad n p) = tt
 
   phase_says : (p : Phase) (id u i : ℕ) → IsHead (head_of how s p id u i)
   unfolding head_of
@@ -101,7 +97,7 @@ module _ (how : How) (s : List ℕ) where
   phase_says Each id u i = section_says i
   phase_says Closing id u i = end_says esn i
   phase_says Listed id u i = section_says i
-  phase_says Between id u i = time_says (time_of (next_time s u i))
+  phase_says Between id u i = time_says (next_time s u i)
 
   pub head_says : (x : Stand) (i : ℕ) → IsHead (head_item how s x i)
   unfolding head_item

@@ -1,13 +1,12 @@
 -- A step, from the item that said its time: its time event, and then its values.
 -- Assumes nothing.
-use Rattle.std.specs.Prelude.{ℕ, ◌≡◌, List, [], ◌∷◌}
+use Rattle.event_rooms.specs.Put.{Put}
+use Rattle.std.specs.Prelude.{ℕ, ◌≡◌, List, [], ◌∷◌, None, Some}
 use Rattle.std.proofs.Common.{ap, ◌∙◌}
 use Rattle.tables.specs.Lists.{Lists}
 use Rattle.rules.specs.Gather.{time}
 use Rattle.records.specs.Event as event
 use Rattle.event_rooms.specs.declared.Counts.{Counts}
-use Rattle.event_rooms.specs.declared.Put.{Put}
-use Rattle.event_rooms.specs.declared.Put.TheVariants as put
 use Rattle.event_rooms.specs.Out.Laws.{EventsRoom, Appends}
 use Rattle.gather.specs.declared.Gathered.{Gathered}
 use Rattle.gather.specs.declared.Part.{Part}
@@ -31,10 +30,10 @@ module _ {t : Lists} {s room list events values : List ℕ} {c : Gathered} {x : 
   step_room = q.asks.holds.written.in_events
 
   module _ {events₁ : List ℕ} {w : Put} (f : (v : List ℕ) → Appends (event.time x.then.time ∷ []) events v c.counts events₁ v w) where
-    pub step_full : w ≡ put.Full → {how : How} {m' : Mem} → Opened t how s (mem_of room list events values) c x m' (part.Out 16 x.at)
+    pub step_full : w ≡ None → {how : How} {m' : Mem} → Opened t how s (mem_of room list events values) c x m' (part.Out 16 x.at)
     step_full e = record { ends = time_refuses t room list (f values) x.at e }
 
-    module _ {n : Counts} (e : w ≡ put.Done n) where
+    module _ {n : Counts} (e : w ≡ Some n) where
       pub step_ask : ValuesAsk t s (mem_of room list events₁ values) (counting c n) x
       step_ask =
           let h = (time_leads t room list (f values) x.at e (done 0)).leads q.asks.rooms q.asks.state q.asks.output q.asks.holds in
@@ -57,7 +56,7 @@ pub ruleset step_laws = (step_room, step_full, step_ask, step_opened)
 
 -- ---- after it
 
-pub says_behind : (x : Item) {p : Phase} → p ≡ after_values x.then.phase → {r : Stand} → r ≡ standing p 0 x.then.time → r ≡ behind_of x
-says_behind x e d = d ∙ ap (λ (p : Phase). standing p 0 x.then.time) e
+pub says_behind : (x : Stand) {p : Phase} → p ≡ after_values x.phase → {r : Stand} → r ≡ standing p 0 x.time → r ≡ standing (after_values x.phase) 0 x.time
+says_behind x e d = d ∙ ap (λ (p : Phase). standing p 0 x.time) e
 
 pub ruleset behind_laws = (says_behind)

@@ -1,5 +1,6 @@
 -- All sections: the loop over what stands between steps.
 -- Assumes nothing.
+use Rattle.refusals.specs.Numbers.{Numbered}
 use Rattle.std.specs.Prelude.{ℕ, ◌<◌, ◌≡◌, refl, false, List}
 use Rattle.std.proofs.Common.{sym, subst, ◌∙◌, arith}
 use Rattle.std.proofs.Math.Path.{ap}
@@ -70,14 +71,17 @@ module _ {t : Lists} {how : How} {s : List ℕ} {m₀ : Mem} {c₀ : Gathered} {
               let w : o.rest ≡ done y.at = follows Over d in (z.0, z.1, z.3 ∙ rw w, z.2);
         }
 
-    pub sections_bad : {n : ℕ} → y.said ≡ Bad n → Runs t m₀ m c₀ (part.Out n y.at) (scan_sections t how s)
+    sections_refused : {n : Numbered} → y.said ≡ Bad n → Runs t m₀ m c₀ (part.Out n.0 n.1) (scan_sections t how s)
     unfolding run
-    sections_bad {n} d =
+    sections_refused {n} d =
         record {
           runs = λ r g p h.
               let z = o.leads.leads r g p h in
-              let w : o.rest ≡ fault n y.at = follows (Bad n) d in z.3 ∙ rw w;
+              let w : o.rest ≡ fault n.0 n.1 = follows (Bad n) d in z.3 ∙ rw w;
         }
+
+    pub sections_bad : {n : Numbered} → y.said ≡ Bad n → {k p : ℕ} → k ≡ n.0 → p ≡ n.1 → Runs t m₀ m c₀ (part.Out k p) (scan_sections t how s)
+    sections_bad d a b = rw (a, b) (sections_refused d)
 
     -- nothing is said
     module _ (d : y.said ≡ Nothing) where

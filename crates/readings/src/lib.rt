@@ -5,10 +5,12 @@ ghost use Rattle.std.specs.Prelude.{◌≡◌};
 ghost use Rattle.section_scan.specs.Sections.{scan_sections};
 ghost use Rattle.gather.specs.Follows.{Asks, Runs};
 ghost use Rattle.item_turns.specs.Lent.{tables, lent, before, after};
-ghost use Rattle.value_readings.specs.Values.{ValuesAsk, behind_of};
+ghost use Rattle.section_heads.specs.Heads.{standing};
+ghost use Rattle.sections.specs.Item.{after_values};
+ghost use Rattle.value_readings.specs.Values.{ValuesAsk};
 ghost use Rattle.readings.specs.Step.{Opened};
 
-use event_rooms::{Put, time_change};
+use event_rooms::time_change;
 use gather::{Gathered, Part};
 use item_turns::{Bytes, Numbers};
 use section_heads::{Item, Phase, Said, Stand, standing};
@@ -35,7 +37,7 @@ fn read_step<'a>(
     let item = e.item;
     let then = item.then;
     match time_change(events, c.counts, then.time) {
-        Put::Done(counts) => {
+        Some(counts) => {
             let g = Gathered {
                 ended: c.ended,
                 listed: c.listed,
@@ -43,17 +45,15 @@ fn read_step<'a>(
             };
             read_values(b, n, s, room, list, events, values, g, e)
         }
-        Put::Full => Part::Out(16, item.at),
+        None => Part::Out(16, item.at),
     }
 }
 
 // Where the reading stands after a step.
-fn behind(opened: Item) -> Stand
-    ensures { result ≡ behind_of opened }
+fn behind(then: Stand) -> Stand
+    ensures { result ≡ standing (after_values then.phase) 0 then.time }
 {
-    let then = opened.then;
-    let phase = then.phase;
-    standing(after_values(phase), 0, then.time)
+    standing(after_values(then.phase), 0, then.time)
 }
 
 // Section reading.
@@ -79,12 +79,13 @@ pub fn read_sections<'a>(
     let answer = 'sections: loop {
         let item = head_item(how, s, x, at);
         let said = item.said;
+        let then = item.then;
         match said {
             Said::Over => {
                 break 'sections Part::Went(item.at, g);
             }
-            Said::Bad(number) => {
-                break 'sections Part::Out(number, item.at);
+            Said::Bad(refusal) => {
+                break 'sections Part::Out(refusal.number(), refusal.place());
             }
             Said::Time(_) => match read_step(
                 b,
@@ -98,7 +99,7 @@ pub fn read_sections<'a>(
                 Entered { how, item },
             ) {
                 Part::Went(end, k) => {
-                    x = behind(item);
+                    x = behind(then);
                     at = end;
                     g = k;
                 }
@@ -107,7 +108,7 @@ pub fn read_sections<'a>(
                 }
             },
             _ => {
-                x = item.then;
+                x = then;
                 at = item.at;
             }
         }

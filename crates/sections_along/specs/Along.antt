@@ -9,7 +9,7 @@ use Rattle.leb128.specs.Leb128.Code.{unsigned_one}
 use Rattle.tables.specs.Lists.{Lists, nth}
 use Rattle.tables.specs.Layout.{layout_of}
 use Rattle.tables.specs.Layout.Laws.{width_is}
-use Rattle.values.specs.declared.Read.TheVariants.{Value}
+use Rattle.values.specs.Read.{Value}
 use Rattle.values.specs.Value.{on_read, unsigned, value}
 use Rattle.values.specs.Value.Laws.{number_value, unsigned_is, byte_found}
 use Rattle.rules.specs.Gather.{write, step_end}
@@ -18,7 +18,7 @@ use Rattle.gather.specs.Memory.{Tabled}
 use Rattle.rules.specs.Scan.{Scan, say, and_then}
 use Rattle.section_scan.specs.Sections.{next_id, one_change, change_list, next_time, one_step, steps, sections}
 use Rattle.section_scan.specs.Sections.Deltas.{id_found, id_same}
-use Rattle.section_scan.specs.declared.NextId.TheVariants.{Id}
+use Rattle.section_scan.specs.FoundId.{Id}
 use Rattle.values.specs.declared.How.{How}
 use Rattle.section_heads.specs.declared.Phase.TheVariants.{Listed}
 use Rattle.section_heads.specs.Heads.{standing}

@@ -1,10 +1,9 @@
 -- What one turn does to the lent memory: a write to a bit, the step's end of one vector, and the event that is due after either.
 -- Assumes nothing.
-use Rattle.std.specs.Prelude.{ℕ, ◌+◌, ◌<◌, true, false, cond, List, length}
+use Rattle.event_rooms.specs.Put.{Put}
+use Rattle.std.specs.Prelude.{ℕ, ◌+◌, ◌<◌, true, false, cond, List, length, None, Some}
 use Rattle.slices.specs.Splice.{splice}
 use Rattle.event_rooms.specs.declared.Counts.{Counts}
-use Rattle.event_rooms.specs.declared.Put.{Put}
-use Rattle.event_rooms.specs.declared.Put.TheVariants.{Done, Full}
 use Rattle.records.specs.declared.Record.TheVariants.{Value}
 use Rattle.records.specs.Event.{record_bytes}
 use Rattle.event_rooms.specs.Out.Laws.{EventsRoom, ValuesRoom, room_for, counted}
@@ -62,8 +61,8 @@ show_vector x c room events values =
     let n = x.info.bytes in
     let after = taken x.info x.flags x.v c.values room values in
     cond (room_for (length events) (length values) c 13 n)
-    (mk after.0 (splice events c.events (record_bytes (Value x.info.states x.reference c.values n))) after.1 (Done (counted c 13 n 0)))
-    (mk room events values Full)
+    (mk after.0 (splice events c.events (record_bytes (Value x.info.states x.reference c.values n))) after.1 (Some (counted c 13 n 0)))
+    (mk room events values None)
 
 pub record Showing (room events values : List ℕ) (c : Counts) (x : VecInfo) : Type 0 where
   pub vector : Inside room x.info

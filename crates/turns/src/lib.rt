@@ -5,7 +5,7 @@
 ghost use Rattle.std.specs.Prelude.{◌≡◌};
 ghost use Rattle.turns.specs.Turns.{Left, Writing, turn_write, Unlists, turn_end, Made, Showing, show_vector};
 
-use event_rooms::{Counts, Put, append_value, room_for};
+use event_rooms::{Counts, append_value, room_for};
 use full_marks::full_signal_has_changed;
 use gather::{Gathered, VecInfo};
 use vecbuffer::{get_full_value_and_clear_changes, update_value};
@@ -76,18 +76,18 @@ pub fn show(
     values: &mut [u8],
     counts: Counts,
     x: VecInfo,
-) -> Put
+) -> Option<Counts>
     requires { Showing room.old events.old values.old counts x }
     ensures { Made.mk room.new events.new values.new result
         ≡ show_vector x counts room.old events.old values.old }
 {
     let info = x.info;
     if !room_for(events.len(), values.len(), counts, 13, info.bytes) {
-        return Put::Full;
+        return None;
     }
     let kind = info.states;
     let flags = x.flags;
     get_full_value_and_clear_changes(room, info, flags, x.v, values, counts.values);
     let used = append_value(events, counts, kind, x.reference, info.bytes);
-    Put::Done(used)
+    Some(used)
 }

@@ -6,8 +6,8 @@ use Rattle.std.proofs.Common.{sym, ap, subst}
 use Rattle.std.proofs.lemmas.Bool.{false≢true}
 use Rattle.slices.specs.Choice.{cond_ind}
 use Rattle.tables.specs.Lists.{Lists, nth}
-use Rattle.values.specs.declared.Read.{Read}
-use Rattle.values.specs.declared.Read.TheVariants as read
+use Rattle.values.specs.Read.{Read}
+use Rattle.values.specs.Read as read
 use Rattle.values.specs.Value.{on_read, value}
 use Rattle.rules.specs.Scan.{Scan}
 use Rattle.gather.specs.Memory.{Tabled}

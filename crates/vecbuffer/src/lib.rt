@@ -6,7 +6,7 @@ ghost use Rattle.vecmarks.specs.Info.{is_marked, with_mark};
 ghost use Rattle.vecstarts.specs.Numbers.{listing};
 ghost use Rattle.vecbuffer.specs.Changes.{Lent, Marks, marked, Updates, updated, Takes, taken};
 
-use slices::{clear_bytes, copy_part};
+use slices::{clear, copy_part};
 use vecmarks::{VecBufferInfo, has_bit_changed, mark_bit_changed, mask_bytes, set_value};
 use vecstarts::list_vector;
 
@@ -78,6 +78,6 @@ pub fn get_full_value_and_clear_changes(
     ensures { (room.new, values.new) ≡ taken info flags v at room.old values.old }
 {
     copy_part(room, info.start, info.bytes, values, at);
-    clear_bytes(room, info.start + info.bytes, mask_bytes(info.width));
+    clear(room, info.start + info.bytes, mask_bytes(info.width), 0);
     set_value(room, flags, v, 0);
 }

@@ -1,7 +1,6 @@
 -- Rule (c)'s test, on the mask bytes.
 -- Assumes nothing.
 use Rattle.std.specs.Prelude.{ℕ, ◌-◌, ◌%◌, ◌^◌, Bool, true, cond, ◌&&◌, List, [], ◌∷◌, eqb, get_or, drop}
-pub mod Laws
 
 -- all bits of all bytes are set
 unfoldable pub all_full : List ℕ → Bool

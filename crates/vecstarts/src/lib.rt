@@ -59,11 +59,9 @@ pub fn fill_starts(mins: &[u32], maxs: &[u32], states: &[u8], list: &mut [u32])
     ensures { list.new ≡ filled (layout_from mins.now maxs.now states.now) list.old (length mins.now) }
 {
     let mut at: usize = 0;
-    let mut i: usize = 0;
-    while i < mins.len() {
+    for i in 0..mins.len() {
         at += chunk_bytes(States::of(states[i]), width_of(mins, maxs, i));
         list[i] = at as u32;
-        i += 1;
     }
 }
 

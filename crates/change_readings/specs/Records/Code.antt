@@ -1,12 +1,11 @@
 -- What the proofs of the functions search: answers, and the loop over all records.
 -- Assumes nothing.
-use Rattle.std.specs.Prelude.{ℕ, ◌<◌, ◌≡◌, Bool, true, false, List}
+use Rattle.event_rooms.specs.Put.{Put}
+use Rattle.std.specs.Prelude.{ℕ, ◌<◌, ◌≡◌, Bool, true, false, List, None, Some}
 use Rattle.std.proofs.Math.Path.{ap}
 use Rattle.std.proofs.Common.{subst, ◌∙◌, arith}
 use Rattle.tables.specs.Lists.{Lists}
 use Rattle.event_rooms.specs.declared.Counts.{Counts}
-use Rattle.event_rooms.specs.declared.Put.{Put}
-use Rattle.event_rooms.specs.declared.Put.TheVariants as put
 use Rattle.gather.specs.declared.Part.TheVariants as part
 use Rattle.rules.specs.Scan.{Scan}
 use Rattle.gather.specs.Run.{run}
@@ -28,10 +27,10 @@ use Rattle.change_readings.specs.Records.{more, refused, opened_by, acted_by, Re
 -- ---- answers
 
 module _ (at : ℕ) (g : Gathered) {q : Put} where
-  pub opened_done : {n : Counts} → q ≡ put.Done n → more true at (counting g n) ≡ opened_by at g q
+  pub opened_done : {n : Counts} → q ≡ Some n → more true at (counting g n) ≡ opened_by at g q
   opened_done e = rw e
 
-  pub opened_full : q ≡ put.Full → refused 16 at g ≡ opened_by at g q
+  pub opened_full : q ≡ None → refused 16 at g ≡ opened_by at g q
   opened_full e = rw e
 
 pub ruleset opened_laws = (opened_done, opened_full)

@@ -1,6 +1,7 @@
 -- A record's turn leaves what was left, and there is less to do.
 -- Assumes nothing.
-use Rattle.std.specs.Prelude.{ℕ, ◌-◌, ◌<◌, ◌≤◌, ◌≡◌, Bool, false, List, [], ◌∷◌, length}
+use Rattle.event_rooms.specs.Put.{Put}
+use Rattle.std.specs.Prelude.{ℕ, ◌-◌, ◌<◌, ◌≤◌, ◌≡◌, Bool, false, List, [], ◌∷◌, length, None, Some}
 use Rattle.std.proofs.Math.Path.{refl, ap}
 use Rattle.std.proofs.Common.{sym, subst, ◌∙◌, true≢false, arith}
 use Rattle.std.proofs.Math.Bool.{true}
@@ -8,8 +9,6 @@ use Rattle.std.proofs.lemmas.Bool.{false≢true}
 use Rattle.tables.specs.Lists.{Lists, signals}
 use Rattle.rules.specs.Gather.{time}
 use Rattle.records.specs.Event as event
-use Rattle.event_rooms.specs.declared.Put.{Put}
-use Rattle.event_rooms.specs.declared.Put.TheVariants as put
 use Rattle.event_rooms.specs.Out.Laws.{EventsRoom, Appends}
 use Rattle.rules.specs.Scan.{Scan, done}
 use Rattle.gather.specs.Memory.{Mem, mem_of}
@@ -29,8 +28,7 @@ use Rattle.item_acts.specs.declared.Acted.{Acted}
 use Rattle.item_acts.specs.Moves.{Says, Moves, moves_from, refuses_from, counting, time_leads, time_moves, time_refuses}
 use Rattle.item_acts.specs.Acts.{ActBy, ActAsks, Stays, Closes, ActsBy, Acts, SaidAt, to_go}
 use Rattle.item_acts.specs.Acts.Laws.{write_act, LeftBehind, stays_moves, closes_moves, done_moves, refused_refuses, on_less, stay_less}
-use Rattle.changes.specs.declared.Change.{Change}
-use Rattle.changes.specs.declared.Change.TheVariants.{Time, Write, StepEnd, End, Bad}
+use Rattle.changes.specs.Change.{ChangeFound, Time, Write, StepEnd, End, Bad}
 use Rattle.changes.specs.Changes.{next_change, changes}
 use Rattle.changes.specs.Changes.Items.{item_of, record_item, item_is, Left, left_some, FollowsBy, record_follows}
 use Rattle.change_readings.specs.declared.Place.{Place}
@@ -106,7 +104,7 @@ is_listed Listed = true
 is_listed Between = false
 
 -- no list follows a change record
-mark_phase : (k : Change) → (item_of k).then.phase ≡ Mark
+mark_phase : (k : ChangeFound) → (item_of k).then.phase ≡ Mark
 unfolding item_of
 mark_phase (Time u j) = refl
 mark_phase (Write id v j) = refl
@@ -115,7 +113,7 @@ mark_phase (End j) = refl
 mark_phase (Bad n p) = refl
 
 module _ (t : Lists) (s : List ℕ) (i : ℕ) (sc : Scan) where
-  says_by : (k : Change) → FollowsBy t s i sc k → is_mid (item_of k).said ≡ true → SaidAt (Left t s (opens (item_of k).said) (item_of k).at) (item_of k) sc
+  says_by : (k : ChangeFound) → FollowsBy t s i sc k → is_mid (item_of k).said ≡ true → SaidAt (Left t s (opens (item_of k).said) (item_of k).at) (item_of k) sc
   unfolding item_of
   says_by (Time u j) f e = absurd (false≢true e)
   says_by (Write id v j) f e = record { says = (i, record { rest = f.0.rest; scans = f.0.scans; left = f.0.left }) }
@@ -124,7 +122,7 @@ module _ (t : Lists) (s : List ℕ) (i : ℕ) (sc : Scan) where
   says_by (Bad n p) f e = record { says = f }
 
   -- .. a time
-  time_by : (k : Change) → FollowsBy t s i sc k → {u : ℕ} → (item_of k).said ≡ said.Time u → Says (time u) (item_of k).at (Left t s true (item_of k).at) sc × (i < (item_of k).at)
+  time_by : (k : ChangeFound) → FollowsBy t s i sc k → {u : ℕ} → (item_of k).said ≡ said.Time u → Says (time u) (item_of k).at (Left t s true (item_of k).at) sc × (i < (item_of k).at)
   unfolding item_of
   time_by (Time v j) f {u} e =
       let z : v ≡ u = ap time_in e in
@@ -135,7 +133,7 @@ module _ (t : Lists) (s : List ℕ) (i : ℕ) (sc : Scan) where
   time_by (Bad n p) f e = absurd (false≢true (ap is_time e))
 
   -- .. nothing more
-  over_by : (k : Change) → FollowsBy t s i sc k → (item_of k).said ≡ said.Over → sc ≡ done (item_of k).at
+  over_by : (k : ChangeFound) → FollowsBy t s i sc k → (item_of k).said ≡ said.Over → sc ≡ done (item_of k).at
   unfolding item_of
   over_by (Time u j) f e = absurd (true≢false (ap is_time e))
   over_by (Write id v j) f e = absurd (true≢false (ap is_mid e))
@@ -144,7 +142,7 @@ module _ (t : Lists) (s : List ℕ) (i : ℕ) (sc : Scan) where
   over_by (Bad n p) f e = absurd (true≢false (ap is_mid e))
 
   -- a write is to a signal
-  act_by : (k : Change) → FollowsBy t s i sc k → (c : Gathered) → is_mid (item_of k).said ≡ true → (is_write (item_of k).said ≡ true → c.ended ≡ 0) → ActBy t c (item_of k).then (item_of k).said
+  act_by : (k : ChangeFound) → FollowsBy t s i sc k → (c : Gathered) → is_mid (item_of k).said ≡ true → (is_write (item_of k).said ≡ true → c.ended ≡ 0) → ActBy t c (item_of k).then (item_of k).said
   unfolding item_of signals
   act_by (Time u j) f c e b = absurd (false≢true e)
   act_by (Write id v j) f c e b = ((b refl, f.1, f.2, f.3), refl)
@@ -153,7 +151,7 @@ module _ (t : Lists) (s : List ℕ) (i : ℕ) (sc : Scan) where
   act_by (Bad n p) f c e b = tt
 
   -- a record that goes on takes bytes
-  ahead_by : (k : Change) → FollowsBy t s i sc k → is_act (item_of k).said ≡ true → (i < (item_of k).at) × ((item_of k).at ≤ length s)
+  ahead_by : (k : ChangeFound) → FollowsBy t s i sc k → is_act (item_of k).said ≡ true → (i < (item_of k).at) × ((item_of k).at ≤ length s)
   unfolding item_of
   ahead_by (Time u j) f e = absurd (false≢true e)
   ahead_by (Write id v j) f e = (f.0.ahead, f.0.left.within)
@@ -164,7 +162,7 @@ module _ (t : Lists) (s : List ℕ) (i : ℕ) (sc : Scan) where
 -- ---- one turn
 
 module _ {t : Lists} {s : List ℕ} {m : Mem} {c : Gathered} {inside : Bool} {i : ℕ} (q : RecordAsks t s m c inside i) where
-  abbrev k : Change
+  abbrev k : ChangeFound
   k = next_change t s inside i
 
   abbrev y : Item
@@ -336,7 +334,7 @@ module _ {t : Lists} {s room list events values : List ℕ} {c : Gathered} {insi
   j = (item_of (next_change t s inside i)).at
 
   opened_by_lem : (w' : Put) → w ≡ w' → Records t s m c inside i m₁ (opened_by j c w')
-  opened_by_lem (put.Done n) d =
+  opened_by_lem (Some n) d =
       let h = (time_leads t room list (f values) j d (done 0)).leads q.rooms q.state q.output q.holds in
       let v : Moves t m c (Left t s inside i) m₁ (counting c n) (Left t s true j) = moves_from (time_says q time_is) (time_moves t room list (f values) j d) in
       let l = (v.moves (changes t s (length s) inside i) (left_some t s inside q.within)).1 in
@@ -357,7 +355,7 @@ module _ {t : Lists} {s room list events values : List ℕ} {c : Gathered} {insi
               moves = v;
             };
       }
-  opened_by_lem put.Full d = record { records = refuses_from (time_says q time_is) (time_refuses t room list (f values) j d) }
+  opened_by_lem None d = record { records = refuses_from (time_says q time_is) (time_refuses t room list (f values) j d) }
 
   pub records_opened : {r : Step} → r ≡ opened_by item.at c w → Records t s (mem_of room list events values) c inside i (mem_of room list events' values) r
   records_opened d = rw (d, at_item q is) (opened_by_lem w refl)

@@ -1,13 +1,8 @@
--- Written by tools/proof-answers from proofs.map.
-use Rattle.std.proofs.Common.{rules}
-use Rattle.vecmarks.proofs.Full.Laws.{full_laws}
+use Rattle.std.proofs.Common.{◌≡◌, ◌↔◌, IsTrue, EachIndex, get_or, rules}
+use Rattle.vecmarks.proofs.Full.Laws.{full_is}
 use Rattle.full_marks.proofs.all_full.Goals as goal
 
-pub returns-then-room-at : goal.returns-then-room-at
-returns-then-room-at c = search (full_laws, rules)
-
-pub loop-i-preserved : goal.loop-i-preserved
-loop-i-preserved c = search (full_laws, rules)
-
 pub returns : goal.returns
-returns c = search (full_laws, rules)
+returns c =
+    let each : IsTrue c.all.result ↔ EachIndex c.args.bytes.now (λ k. get_or c.args.bytes.now k 0 ≡ 255) = search rules in
+    full_is _ _ each

@@ -1,6 +1,7 @@
 -- How the parts compose, and what they say of the acts.
 -- Assumes nothing.
-use Rattle.std.specs.Prelude.{◌≡◌, ℕ, suc, ◌-◌, Bool, cond, ◌&&◌, eqb, get_or}
+use Rattle.event_rooms.specs.Put.{Put}
+use Rattle.std.specs.Prelude.{◌≡◌, ℕ, suc, ◌-◌, Bool, cond, ◌&&◌, eqb, get_or, None, Some}
 use Rattle.std.proofs.Math.Path.{refl, ap}
 use Rattle.std.proofs.Common.{sym, ◌∙◌, eqb-true, eq-eqb}
 use Rattle.std.proofs.Math.Bool.{true, false}
@@ -12,8 +13,6 @@ use Rattle.tables.specs.Layout.{layout_of}
 use Rattle.rules.specs.Vector.{Write, Cause, rewritten, complete, Vec, all, cleared, fires, clashes, stored, acts_early, act}
 use Rattle.rules.specs.Vector as op
 use Rattle.rules.specs.Gather.{write, Happening, at, single, of, ends, State, with, list, width, bit_write, to_vector, toward, does}
-use Rattle.event_rooms.specs.declared.Put.{Put}
-use Rattle.event_rooms.specs.declared.Put.TheVariants as put
 use Rattle.records.specs.Event.{Event}
 use Rattle.event_rooms.specs.Out.{Rooms, Out, append_all}
 use Rattle.vecbuffer.specs.Stands.{storing, clearing}
@@ -168,5 +167,5 @@ acts_bit {t} {m' = m'} {w = w} id v bit x p f number place wide =
 -- ---- the answer of an append
 
 abbrev pub wrote_of : Gathered → Put → Wrote
-wrote_of c (put.Done n) = Done (record { ended = c.ended; listed = c.listed; counts = n })
-wrote_of c put.Full = Full
+wrote_of c (Some n) = Done (record { ended = c.ended; listed = c.listed; counts = n })
+wrote_of c None = Full

@@ -3,7 +3,7 @@
 use Rattle.std.specs.Prelude.{ℕ, ◌≡◌}
 use Rattle.tables.specs.Lists.{Lists}
 use Rattle.tables.specs.Checks.{checks}
-use Rattle.tables.specs.declared.Check.TheVariants.{Passed}
+use Rattle.tables.specs.Check.{Passed}
 use Rattle.tables.specs.Good.Laws.{good, in_range}
 use Rattle.rules.specs.Gather.{Good}
 use Rattle.gather.specs.Run.{gathers}

@@ -3,8 +3,8 @@ use Rattle.item_acts.specs.Acts.Code.{act_laws, acts_turned}
 use Rattle.std.proofs.Common.{rules}
 use Rattle.item_acts.proofs.act_item.Goals as goal
 
-pub stage_of-requires : goal.stage_of-requires
-stage_of-requires c = search (act_laws, rules)
+pub stage_of-stage-requires : goal.stage_of-stage-requires
+stage_of-stage-requires c = search (act_laws, rules)
 
 pub turn_item-w-requires : goal.turn_item-w-requires
 turn_item-w-requires c = search (act_laws, rules)
@@ -19,4 +19,4 @@ pub returns-in-Bad : goal.returns-in-Bad
 returns-in-Bad c = search (act_laws, rules)
 
 pub returns-in-More : goal.returns-in-More
-returns-in-More c = acts_turned c.requires c.stage_of.ensures c.in-More.is c.turn_item-w.ensures c.moved.ensures
+returns-in-More c = acts_turned c.requires c.stage_of-stage.ensures c.in-More.is c.turn_item-w.ensures c.moved.ensures

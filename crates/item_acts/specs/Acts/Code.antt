@@ -19,6 +19,7 @@ use Rattle.item_turns.specs.declared.Ended.TheVariants.{On, Stay, Full}
 use Rattle.item_turns.specs.declared.Went.{Went}
 use Rattle.item_turns.specs.Leads.{goes_leads}
 use Rattle.item_turns.specs.Turn.{TurnAsks, TurnsBy, Turns}
+use Rattle.refusals.specs.Numbers.{Numbered}
 use Rattle.item_acts.specs.declared.Stage.{Stage}
 use Rattle.item_acts.specs.declared.Stage.TheVariants as stage
 use Rattle.item_acts.specs.declared.Acted.{Acted}
@@ -28,7 +29,7 @@ use Rattle.item_acts.specs.Acts.{stage_of, on, still, over_at, refused, moved_by
 -- ---- stages
 
 module _ {a : Said} (g : Gathered) where
-  pub says_bad : {n : ℕ} → a ≡ Bad n → stage.Bad n ≡ stage_of a g
+  pub says_bad : {n : Numbered} → a ≡ Bad n → stage.Bad n ≡ stage_of a g
   unfolding stage_of
   says_bad e = rw e
 
@@ -72,10 +73,10 @@ is_bad stage.More = false
 is_bad stage.Over = false
 is_bad (stage.Bad n) = true
 
-abbrev number_in : Stage → ℕ
-number_in stage.More = 0
-number_in stage.Over = 0
-number_in (stage.Bad n) = n
+abbrev refusal_in : Stage → Numbered
+refusal_in stage.More = (0, 0)
+refusal_in stage.Over = (0, 0)
+refusal_in (stage.Bad n) = n
 
 more_ended : (b : Bool) → is_more (cond b stage.Over stage.More) ≡ true → b ≡ false
 more_ended true e = absurd (false≢true e)
@@ -98,7 +99,7 @@ over_is c StepEnd e = (refl, eqb-true c.ended c.listed (over_ended (eqb c.ended 
 over_is c Over e = absurd (false≢true e)
 over_is c (Bad n) e = absurd (false≢true e)
 
-bad_is : (c : Gathered) (a : Said) → is_bad (stage_of a c) ≡ true → a ≡ Bad (number_in (stage_of a c))
+bad_is : (c : Gathered) (a : Said) → is_bad (stage_of a c) ≡ true → a ≡ Bad (refusal_in (stage_of a c))
 unfolding stage_of
 bad_is c Nothing e = absurd (false≢true e)
 bad_is c (Time u) e = absurd (false≢true e)
@@ -159,10 +160,13 @@ module _ {t : Lists} {m : Mem} {c : Gathered} {x : Item} (q : ActAsks t m c x) {
       let z = over_is c x.said (ap is_over (sym e ∙ d)) in
       record { acts = record { ends = z.0; place = refl; leads = λ p rest. goes_leads (λ r n o h. ends_over h (omega (arith, z.1))) p rest } }
 
-  pub acts_bad : {n : ℕ} → r ≡ stage.Bad n → (s : List ℕ) {m' : Mem} → Acts t s m c x m' (refused n x.at c)
-  acts_bad {n} d s =
+  refused_at : {n : Numbered} → r ≡ stage.Bad n → (s : List ℕ) {m' : Mem} → Acts t s m c x m' (refused n.0 n.1 c)
+  refused_at {n} d s =
       let k : stage_of x.said c ≡ stage.Bad n = sym e ∙ d in
       let z = bad_is c x.said (ap is_bad k) in
-      record { acts = acts.bad (z ∙ ap (λ (g : Stage). Bad (number_in g)) k) }
+      record { acts = acts.bad (z ∙ ap (λ (g : Stage). Bad (refusal_in g)) k) }
+
+  pub acts_bad : {n : Numbered} → r ≡ stage.Bad n → {k p : ℕ} → k ≡ n.0 → p ≡ n.1 → (s : List ℕ) {m' : Mem} → Acts t s m c x m' (refused k p c)
+  acts_bad d a b s = rw (a, b) (refused_at d s)
 
 pub ruleset act_laws = (ask_turn, acts_turned, acts_over, acts_bad)

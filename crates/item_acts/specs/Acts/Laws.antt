@@ -85,10 +85,10 @@ module _ {t : Lists} {m : Mem} {c : Gathered} {x : Item} {L N : Scan → Type 0}
   unfolding run
   refused_refuses (acts.full e f) =
       record { refuses = λ sc l. let y = acting says e sc l in subst (λ (v : Scan). Quits t m c v 16 x.at) (sym y.1.scans) (f.quits y.0 x.at y.1.rest) }
-  refused_refuses (acts.bad {n} e) =
+  refused_refuses (acts.bad {n} {p} e) =
       record {
         refuses = λ sc l.
-            let k : sc ≡ fault n x.at = subst (SaysBy N x sc) e (says sc l).says in
+            let k : sc ≡ fault n p = subst (SaysBy N x sc) e (says sc l).says in
             record { quits = λ r g o h. ap (λ (v : Scan). run t r v g o) k };
       }
 

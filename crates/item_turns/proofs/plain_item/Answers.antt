@@ -19,11 +19,11 @@ stays-requires c = search (plain_laws, rules)
 pub stays-requires-in_default : goal.stays-requires-in_default
 stays-requires-in_default c = search (plain_laws, rules)
 
-pub returns-in-Done : goal.returns-in-Done
-returns-in-Done c = search (plain_laws, rules)
+pub returns-in-Some : goal.returns-in-Some
+returns-in-Some c = search (plain_laws, rules)
 
-pub returns-in-Full : goal.returns-in-Full
-returns-in-Full c = search (plain_laws, rules)
+pub returns-in-None : goal.returns-in-None
+returns-in-None c = search (plain_laws, rules)
 
 pub returns-in_default : goal.returns-in_default
 returns-in_default c = search (plain_laws, rules)

@@ -19,10 +19,10 @@ pub turn-t-requires : goal.turn-t-requires
 turn-t-requires c = turning c.requires c.vector_info-x.ensures
 
 pub go_on-requires : goal.go_on-requires
-go_on-requires c = go_asks c.requires c.vector_info-x.ensures c.turn-t.ensures c.show_due.ensures c.in-Done.is
+go_on-requires c = go_asks c.requires c.vector_info-x.ensures c.turn-t.ensures c.show_due.ensures c.in-Some.is
 
-pub returns-in-Done : goal.returns-in-Done
-returns-in-Done c = turns_gone c.requires c.vector_info-x.ensures c.turn-t.ensures c.show_due.ensures c.in-Done.is c.go_on.ensures
+pub returns-in-Some : goal.returns-in-Some
+returns-in-Some c = turns_gone c.requires c.vector_info-x.ensures c.turn-t.ensures c.show_due.ensures c.in-Some.is c.go_on.ensures
 
-pub returns-in-Full : goal.returns-in-Full
-returns-in-Full c = turns_full c.requires c.vector_info-x.ensures c.turn-t.ensures c.show_due.ensures c.in-Full.is c.stays.ensures
+pub returns-in-None : goal.returns-in-None
+returns-in-None c = turns_full c.requires c.vector_info-x.ensures c.turn-t.ensures c.show_due.ensures c.in-None.is c.stays.ensures

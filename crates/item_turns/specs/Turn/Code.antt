@@ -1,12 +1,11 @@
 -- What the proofs of the functions search.
 -- Assumes nothing.
-use Rattle.std.specs.Prelude.{ℕ, ◌+◌, ◌-◌, ◌^◌, ◌<◌, ◌≤◌, ◌≡◌, Bool, true, false, not, List, [], ◌∷◌, get_or}
+use Rattle.event_rooms.specs.Put.{Put}
+use Rattle.std.specs.Prelude.{ℕ, ◌+◌, ◌-◌, ◌^◌, ◌<◌, ◌≤◌, ◌≡◌, Bool, true, false, not, List, [], ◌∷◌, get_or, None, Some}
 use Rattle.std.proofs.Common.{◌∙◌, arith}
 use Rattle.std.proofs.lemmas.Bool.{not-true, not-false}
 use Rattle.tables.specs.Lists.{Lists, nth}
 use Rattle.event_rooms.specs.declared.Counts.{Counts}
-use Rattle.event_rooms.specs.declared.Put.{Put}
-use Rattle.event_rooms.specs.declared.Put.TheVariants as put
 use Rattle.event_rooms.specs.Out.Laws.{Appends}
 use Rattle.gather.specs.declared.VecInfo.{VecInfo}
 use Rattle.gather.specs.Run.{alone}
@@ -51,7 +50,7 @@ module _ (due : Bool) (x : VecInfo) (n : Counts) (room events values : List ℕ)
   unfolding show_due
   says_shown z e = e ∙ rw z
 
-  pub says_none : due ≡ false → turn.mk room events values (put.Done n) ≡ show_due due x n room events values
+  pub says_none : due ≡ false → turn.mk room events values (Some n) ≡ show_due due x n room events values
   unfolding show_due
   says_none z = rw z
 
@@ -106,10 +105,10 @@ module _ {t : Lists} {events values : List ℕ} {c : Gathered} {y : Item} (q : P
   ask_alone = q.asks v id e
 
   module _ {events' values' : List ℕ} {p : Put} (f : Appends (alone (nth t.kinds id) (nth t.refs id) v ∷ []) events values c.counts events' values' p) where
-    pub says_made : {n : Counts} → p ≡ put.Done n → {u : Went} → u ≡ goes_on y.at y.then.id (record { ended = c.ended; listed = c.listed; counts = n }) → PlainTurns t c y events values events' values' u
+    pub says_made : {n : Counts} → p ≡ Some n → {u : Went} → u ≡ goes_on y.at y.then.id (record { ended = c.ended; listed = c.listed; counts = n }) → PlainTurns t c y events values events' values' u
     says_made d z = rw z (item.made v id e (rw d at f))
 
-    pub says_full : p ≡ put.Full → {u : Went} → u ≡ stays Full c → PlainTurns t c y events values events' values' u
+    pub says_full : p ≡ None → {u : Went} → u ≡ stays Full c → PlainTurns t c y events values events' values' u
     says_full d z = rw z (item.full v id e (rw d at f))
 
 pub ruleset plain_laws = (ask_alone, says_made, says_full)

@@ -1,6 +1,7 @@
 -- What is left to be run after a turn, and that its turns come to an end.
 -- Assumes nothing.
-use Rattle.std.specs.Prelude.{ℕ, ◌+◌, ◌-◌, ◌<◌, ◌≤◌, ◌≡◌, Bool, not, List, length, get_or}
+use Rattle.event_rooms.specs.Put.{Put}
+use Rattle.std.specs.Prelude.{ℕ, ◌+◌, ◌-◌, ◌<◌, ◌≤◌, ◌≡◌, Bool, not, List, length, get_or, None, Some}
 use Rattle.std.proofs.Math.Path.{refl}
 use Rattle.std.proofs.Common.{sym, ap, subst, ◌∙◌, arith}
 use Rattle.std.proofs.Math.Bool.{true, false}
@@ -8,8 +9,6 @@ use Rattle.tables.specs.Lists.{Lists, nth, signals}
 use Rattle.tables.specs.Layout.{layout_of}
 use Rattle.rules.specs.Gather.{State}
 use Rattle.event_rooms.specs.declared.Counts.{Counts}
-use Rattle.event_rooms.specs.declared.Put.{Put}
-use Rattle.event_rooms.specs.declared.Put.TheVariants as put
 use Rattle.event_rooms.specs.Out.{Rooms, Out}
 use Rattle.vecmarks.specs.declared.VecBufferInfo.{VecBufferInfo}
 use Rattle.vecmarks.specs.Info.{info_at, is_quiet}
@@ -89,12 +88,12 @@ module _ {t : Lists} {room list events values : List ℕ} {c : Gathered} {x : It
       -- the event that is due, where one is
       module _ (pos : ℕ) {r : Rooms} {g : State} {o : Out} (h : Holds t r (mem_of room list events values) c g o) where
         abbrev MadeBy : Made → Type 0
-        MadeBy (turn.mk room₂ events₂ values₂ (put.Done n)) = Goes t r (act_of a pos) (mem_of room₂ list₁ events₂ values₂) (listed_as w n) w.over g o
-        MadeBy (turn.mk room₂ events₂ values₂ put.Full) = Stops t r (act_of a pos) g o
+        MadeBy (turn.mk room₂ events₂ values₂ (Some n)) = Goes t r (act_of a pos) (mem_of room₂ list₁ events₂ values₂) (listed_as w n) w.over g o
+        MadeBy (turn.mk room₂ events₂ values₂ None) = Stops t r (act_of a pos) g o
 
         shown_by : w.due ≡ true → (l : Made) → l ≡ show_vector i c.counts room₁ events values → MadeBy l
-        shown_by y (turn.mk room₂ events₂ values₂ (put.Done n)) f = after_shown (after r g o h pos) y seen f refl
-        shown_by y (turn.mk room₂ events₂ values₂ put.Full) f = after_full (after r g o h pos) y seen f refl
+        shown_by y (turn.mk room₂ events₂ values₂ (Some n)) f = after_shown (after r g o h pos) y seen f refl
+        shown_by y (turn.mk room₂ events₂ values₂ None) f = after_full (after r g o h pos) y seen f refl
 
         made_by : (b : Bool) → w.due ≡ b → MadeBy (show_due b i c.counts room₁ events values)
         unfolding show_due
@@ -102,12 +101,12 @@ module _ {t : Lists} {room list events values : List ℕ} {c : Gathered} {x : It
         made_by false y = after_quiet (after r g o h pos) y
 
       abbrev LessBy : Made → Type 0
-      LessBy (turn.mk room₂ events₂ values₂ (put.Done n)) = w.over ≡ false → to_turn (listed_as w n) (waits t room₂ a) < to_turn c (waits t room a)
-      LessBy (turn.mk room₂ events₂ values₂ put.Full) = Unit {0}
+      LessBy (turn.mk room₂ events₂ values₂ (Some n)) = w.over ≡ false → to_turn (listed_as w n) (waits t room₂ a) < to_turn c (waits t room a)
+      LessBy (turn.mk room₂ events₂ values₂ None) = Unit {0}
 
       shown_less : (l : Made) → l ≡ show_vector i c.counts room₁ events values → LessBy l
-      shown_less (turn.mk room₂ events₂ values₂ (put.Done n)) f = λ y. ready_shown k q.asks.holds i q.asks.ready q.vector seen e y f refl
-      shown_less (turn.mk room₂ events₂ values₂ put.Full) f = tt
+      shown_less (turn.mk room₂ events₂ values₂ (Some n)) f = λ y. ready_shown k q.asks.holds i q.asks.ready q.vector seen e y f refl
+      shown_less (turn.mk room₂ events₂ values₂ None) f = tt
 
       less_by : (b : Bool) → w.due ≡ b → LessBy (show_due b i c.counts room₁ events values)
       unfolding show_due
@@ -116,15 +115,15 @@ module _ {t : Lists} {room list events values : List ℕ} {c : Gathered} {x : It
 
       module _ {room₂ events₂ values₂ : List ℕ} {p : Put} (f : turn.mk room₂ events₂ values₂ p ≡ show_due w.due i c.counts room₁ events values) where
         -- it does not fit
-        pub turns_full : p ≡ put.Full → {s : List ℕ} {m' : Mem} {u : Went} → u ≡ stays Full c → Turns t s (mem_of room list events values) c x m' u
+        pub turns_full : p ≡ None → {s : List ℕ} {m' : Mem} {u : Went} → u ≡ stays Full c → Turns t s (mem_of room list events values) c x m' u
         turns_full d z =
             rw z
             (record {
               turns = record { quits = λ pos. stops_quits (λ r g o h. subst (MadeBy pos h) (sym f ∙ ap (turn.mk room₂ events₂ values₂) d) (made_by pos h w.due refl)) };
             })
 
-        module _ {n : Counts} (d : p ≡ put.Done n) where
-          made_is : show_due w.due i c.counts room₁ events values ≡ turn.mk room₂ events₂ values₂ (put.Done n)
+        module _ {n : Counts} (d : p ≡ Some n) where
+          made_is : show_due w.due i c.counts room₁ events values ≡ turn.mk room₂ events₂ values₂ (Some n)
           made_is = sym f ∙ ap (turn.mk room₂ events₂ values₂) d
 
           goes : (pos : ℕ) (r : Rooms) (g : State) (o : Out) → Holds t r (mem_of room list events values) c g o → Goes t r (act_of a pos) (mem_of room₂ list₁ events₂ values₂) (listed_as w n) w.over g o

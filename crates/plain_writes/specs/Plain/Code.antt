@@ -1,6 +1,7 @@
 -- What the proofs of the functions for signals outside vectors search.
 -- Assumes nothing.
-use Rattle.std.specs.Prelude.{ℕ, ◌+◌, ◌-◌, ◌%◌, ◌<◌, ◌≤◌, ◌≡◌, Bool, true, false, not, leb, length, set, get_or}
+use Rattle.event_rooms.specs.Put.{Put}
+use Rattle.std.specs.Prelude.{ℕ, ◌+◌, ◌-◌, ◌%◌, ◌<◌, ◌≤◌, ◌≡◌, Bool, true, false, not, leb, length, set, get_or, None, Some}
 use Rattle.std.proofs.Common.{sym, ap, ◌∙◌, mod-eq_of_lt}
 use Rattle.std.proofs.Math.Logic.{⊎_elim}
 use mathlib.Core.List.{List, [], ◌∷◌}
@@ -17,8 +18,6 @@ use Rattle.tables.specs.Lists.{nth}
 use Rattle.tables.specs.Checks.Laws.{nth_less}
 use Rattle.values.specs.Value.{most_of, Suits}
 use Rattle.event_rooms.specs.declared.Counts.{Counts}
-use Rattle.event_rooms.specs.declared.Put.{Put}
-use Rattle.event_rooms.specs.declared.Put.TheVariants.{Done, Full}
 use Rattle.records.specs.declared.Record.TheVariants.{Value}
 use Rattle.records.specs.Event.{value, real, record_bytes}
 use Rattle.event_rooms.specs.Out.Laws.{EventsRoom, Appends, room_for, room_fits, counted, value_full, value_done}
@@ -98,7 +97,7 @@ module _ {events values : List ℕ} {c : Counts} {kind v : ℕ} (q : Plain event
   ask_used = (q.alone.in_events.used, q.alone.in_values.used)
 
   module _ {n : ℕ} (long : n ≡ length (plain_value kind v)) {m : Bool} (t : m ≡ room_for (length events) (length values) c 13 n) where
-    pub says_full : not m ≡ true → (reference : ℕ) {events' values' : List ℕ} → Appends (alone kind reference v ∷ []) events values c events' values' Full
+    pub says_full : not m ≡ true → (reference : ℕ) {events' values' : List ℕ} → Appends (alone kind reference v ∷ []) events values c events' values' None
     says_full z reference {events'} {values'} =
         rw (plain_is kind reference v q.alone.suits q.plain)
         (value_full 0 (plain_states kind) reference (plain_value kind v) n long events values c events' values' (sym t ∙ not-true m z))
@@ -119,7 +118,7 @@ module _ {events values : List ℕ} {c : Counts} {kind v : ℕ} (q : Plain event
       pub says_done : {values' : List ℕ} → values' ≡ splice values c.values (plain_value kind v) → {s : States} → s ≡ plain_states kind
           → {c' : Counts} → c' ≡ counted c 13 n 0
           → (reference : ℕ) {events' : List ℕ} → events' ≡ splice events c.events (record_bytes (Value s reference c.values n))
-          → Appends (alone kind reference v ∷ []) events values c events' values' (Done c')
+          → Appends (alone kind reference v ∷ []) events values c events' values' (Some c')
       says_done {values'} p k e reference {events'} a =
           rw (e, plain_is kind reference v q.alone.suits q.plain)
           (value_done 0 (plain_states kind) reference (plain_value kind v) n long events values c events' values' (sym t ∙ not-false m h) (a ∙ rw k) p)

@@ -25,10 +25,10 @@ pub usize_of_byte-requires : goal.usize_of_byte-requires
 usize_of_byte-requires c = search (take_laws, rules)
 
 pub store_down-requires : goal.store_down-requires
-store_down-requires c = ask_down c.requires c.short_delta.ensures (ap not c.if-not-short_delta.false) c.short_value.ensures c.in-Bit.is c.usize_of_byte.ensures.0
+store_down-requires c = ask_down c.requires c.short_delta.ensures (ap not c.if-not-short_delta.false) c.short_value.ensures c.in-Some.is c.usize_of_byte.ensures.0
 
-pub returns-in-Bit : goal.returns-in-Bit
-returns-in-Bit c = search (take_laws, rules)
+pub returns-in-Some : goal.returns-in-Some
+returns-in-Some c = search (take_laws, rules)
 
-pub returns-in-Other : goal.returns-in-Other
-returns-in-Other c = search (take_laws, rules)
+pub returns-in-None : goal.returns-in-None
+returns-in-None c = search (take_laws, rules)

@@ -1,6 +1,6 @@
 -- What the functions that follow a vector's bits ask and promise, and what their proofs search.
 -- Assumes nothing.
-use Rattle.std.specs.Prelude.{◌≡◌, refl, ℕ, ◌+◌, ◌-◌, ◌^◌, ◌≤◌, ◌<◌, Bool, true, false, not, cond, ◌&&◌, List, length, get_or, ltb, leb}
+use Rattle.std.specs.Prelude.{◌≡◌, refl, ℕ, ◌+◌, ◌-◌, ◌^◌, ◌≤◌, ◌<◌, Bool, true, false, not, cond, ◌&&◌, List, length, get_or, ltb, leb, None, Option, Some}
 use Rattle.std.proofs.Common.{sym, ◌∙◌, true≢false, arith}
 use borrow.Author.Tests.{lt-ltb, le-ltb, ltb-true, le-leb, lt-leb, leb-true, not-true, not-false}
 use Rattle.states.specs.declared.States.{States}
@@ -11,8 +11,6 @@ use Rattle.states.specs.Letters.Laws.{mapped_most}
 use Rattle.vecmarks.specs.declared.VecBufferInfo.{VecBufferInfo}
 use Rattle.vecmarks.specs.Info.{is_marked, with_bit, Inside}
 use Rattle.quiet_changes.specs.Along.{is_short, bit_most, bit_map, short_of, Took}
-use Rattle.quiet_changes.specs.declared.Short.{Short}
-use Rattle.quiet_changes.specs.declared.Short.TheVariants as short
 
 -- ---- a delta and a value
 
@@ -34,17 +32,17 @@ pub ruleset delta_laws = (short_none, short_long, short_left)
 
 module _ {k : States} (b : ℕ) where
   module _ (e : k ≡ Two) where
-    pub two_good : b ≤ 1 → short.Bit b ≡ short_of k b
+    pub two_good : b ≤ 1 → Some b ≡ short_of k b
     two_good h = rw (e, le-leb b 1 h)
 
-    pub two_bad : 1 < b → short.Other ≡ short_of k b
+    pub two_bad : 1 < b → None ≡ short_of k b
     two_bad h = rw (e, lt-leb b 1 h)
 
   module _ (e : k ≡ Nine) where
-    pub nine_good : b ≤ 8 → (m : ℕ) → m ≡ mapped b → short.Bit m ≡ short_of k b
+    pub nine_good : b ≤ 8 → (m : ℕ) → m ≡ mapped b → Some m ≡ short_of k b
     nine_good h m q = rw (e, le-leb b 8 h, q)
 
-    pub nine_bad : 8 < b → short.Other ≡ short_of k b
+    pub nine_bad : 8 < b → None ≡ short_of k b
     nine_bad h = rw (e, lt-leb b 8 h)
 
 pub ruleset value_laws = (two_good, two_bad, nine_good, nine_bad)
@@ -62,10 +60,10 @@ short_is left d e =
     let k = all_three (ltb 0 d) (ltb d 128) (ltb d left) e in
     (ltb-true 0 d k.0, ltb-true d 128 k.1, ltb-true d left k.2)
 
-bit_is : (k : States) (b x : ℕ) → short.Bit x ≡ short_of k b → (b ≤ bit_most k) × (x ≡ bit_map k b)
+bit_is : (k : States) (b x : ℕ) → Some x ≡ short_of k b → (b ≤ bit_most k) × (x ≡ bit_map k b)
 bit_is k b x e = go (leb b (bit_most k)) refl e
   where
-    go : (m : Bool) → leb b (bit_most k) ≡ m → short.Bit x ≡ cond m (short.Bit (bit_map k b)) short.Other → (b ≤ bit_most k) × (x ≡ bit_map k b)
+    go : (m : Bool) → leb b (bit_most k) ≡ m → Some x ≡ cond m (Some (bit_map k b)) None → (b ≤ bit_most k) × (x ≡ bit_map k b)
     go true h d = (leb-true b (bit_most k) h, cc)
     go false h d = let z : ◌≡◌ {A = ℕ} 0 1 = cc in absurd (omega arith)
 
@@ -127,7 +125,7 @@ module _ {k : States} {i : VecBufferInfo} {s : List ℕ} {left at : ℕ} {room :
   same_info : ◌≡◌ {A = VecBufferInfo} (record { start = i.start; bytes = i.bytes; width = i.width; states = k }) i
   same_info = rw q.kind
 
-  module _ {m : Bool} (e : m ≡ is_short left (get_or s at 0)) (z : not m ≡ false) {h : Short} (f : h ≡ short_of k (get_or s (at + 1) 0)) {x : ℕ} (g : h ≡ short.Bit x) {d : ℕ} (n : d ≡ get_or s at 0) where
+  module _ {m : Bool} (e : m ≡ is_short left (get_or s at 0)) (z : not m ≡ false) {h : Option ℕ} (f : h ≡ short_of k (get_or s (at + 1) 0)) {x : ℕ} (g : h ≡ Some x) {d : ℕ} (n : d ≡ get_or s at 0) where
     near : (0 < get_or s at 0) × (get_or s at 0 < 128) × (get_or s at 0 < left)
     near = short_is left (get_or s at 0) (sym e ∙ not-false m z)
 

@@ -9,8 +9,8 @@ time_change-requires c = search (step_laws, rules)
 pub read_values-requires : goal.read_values-requires
 read_values-requires c = search (step_laws, rules)
 
-pub returns-in-Done : goal.returns-in-Done
-returns-in-Done c = search (step_laws, rules)
+pub returns-in-Some : goal.returns-in-Some
+returns-in-Some c = search (step_laws, rules)
 
-pub returns-in-Full : goal.returns-in-Full
-returns-in-Full c = step_full c.requires c.time_change.ensures c.in-Full.is
+pub returns-in-None : goal.returns-in-None
+returns-in-None c = step_full c.requires c.time_change.ensures c.in-None.is

@@ -1,7 +1,8 @@
 -- The run of what is left, and what the turns' bytes stand for.
 -- Assumes nothing.
+use Rattle.event_rooms.specs.Put.{Put}
 use Prim.Native.Nat.{ℕ, suc, ◌+◌, ◌-◌, ◌^◌, ◌<◌, ◌≤◌}
-use Rattle.std.specs.Prelude.{◌≡◌, true, false, ◌&&◌, length, get_or}
+use Rattle.std.specs.Prelude.{◌≡◌, true, false, ◌&&◌, length, get_or, None, Some}
 use Rattle.std.proofs.Math.Path.{refl, subst}
 use Rattle.std.proofs.Common.{sym, ap, ◌∙◌, true≢false}
 use Rattle.std.proofs.Math.Bool.{Bool}
@@ -17,8 +18,6 @@ use Rattle.rules.proofs.Vector.Laws.{cleared_clash}
 use Rattle.rules.specs.Gather.{Act, write, step_end, Happening, of, State, width, bit_write, does}
 use Rattle.rules.proofs.Gather.Laws.{with_same}
 use Rattle.event_rooms.specs.declared.Counts.{Counts}
-use Rattle.event_rooms.specs.declared.Put.{Put}
-use Rattle.event_rooms.specs.declared.Put.TheVariants.{Done, Full}
 use Rattle.records.specs.Event.{Event}
 use Rattle.event_rooms.specs.Out.{Rooms, Out, append_all}
 use Rattle.event_rooms.specs.Out.Laws.{Written, Appends, all_append, all_none, room_for}
@@ -197,7 +196,7 @@ module _ (x : VecInfo) (room events values : List ℕ) (c : Gathered) where
   unfolding show_vector
   shown_from e =
       subst ShownIn (sym e)
-      (cond_ind (room_for (length events) (length values) c.counts 13 x.info.bytes) _ (turn.mk room events values Full) ShownIn (λ z. event_done (sym z) refl refl refl refl)
+      (cond_ind (room_for (length events) (length values) c.counts 13 x.info.bytes) _ (turn.mk room events values None) ShownIn (λ z. event_done (sym z) refl refl refl refl)
       (λ z. event_full (sym z) refl))
 
 module _ {t : Lists} {r : Rooms} {v : ℕ} {a : Act} {room list events values : List ℕ} {c : Gathered} {w : Turned} {g : State} {o : Out} (f : After t r v a (mem_of room list events values) c w g o) where
@@ -222,12 +221,12 @@ module _ {t : Lists} {r : Rooms} {v : ℕ} {a : Act} {room list events values : 
 
   module _ (z : w.due ≡ true) {x : VecInfo} (s : Seen t v x) {room' events' values' : List ℕ} {q : Put} (e : turn.mk room' events' values' q ≡ show_vector x c.counts room events values) where
     -- it fits
-    pub after_shown : {n : Counts} → q ≡ Done n → Goes t r a (mem_of room' list events' values') (record { ended = w.ended; listed = w.listed; counts = n }) w.over g o
+    pub after_shown : {n : Counts} → q ≡ Some n → Goes t r a (mem_of room' list events' values') (record { ended = w.ended; listed = w.listed; counts = n }) w.over g o
     unfolding shown_events shown_state always
     after_shown {n} d = due_goes z (((rw d at (shown_from x room events values (record { ended = w.ended; listed = w.listed; counts = c.counts }) e)).shown t v list w.ended s).makes r f.state o f.holds)
 
     -- or not
-    pub after_full : q ≡ Full → Stops t r a g o
+    pub after_full : q ≡ None → Stops t r a g o
     unfolding shown_events always
     after_full d = record { stops = due_stops z (((rw d at (shown_from x room events values (record { ended = w.ended; listed = w.listed; counts = c.counts }) e)).shown t v list w.ended s).makes r f.state o f.holds) }
 
@@ -247,10 +246,10 @@ module _ {t : Lists} {r : Rooms} {room list events values : List ℕ} {c : Gathe
       → Goes t r (write id y pos) (mem_of room list events' values') (record { ended = c.ended; listed = c.listed; counts = n }) true g o
   comes_goes k = record { state = g; output = k.0; holds = record { stands = h.stands; clean = h.clean; written = k.2 }; left = plain_left k.1 }
 
-  pub plain_goes : {n : Counts} → q ≡ Done n → Goes t r (write id y pos) (mem_of room list events' values') (record { ended = c.ended; listed = c.listed; counts = n }) true g o
+  pub plain_goes : {n : Counts} → q ≡ Some n → Goes t r (write id y pos) (mem_of room list events' values') (record { ended = c.ended; listed = c.listed; counts = n }) true g o
   plain_goes d = comes_goes ((rw d at f).comes r o h.written)
 
-  pub plain_stops : q ≡ Full → Stops t r (write id y pos) g o
+  pub plain_stops : q ≡ None → Stops t r (write id y pos) g o
   unfolding fitted
   plain_stops d = let k = (rw d at f).comes r o h.written in record { stops = λ p rest. left_plain p rest ∙ rw k }
 
@@ -305,7 +304,7 @@ module _ (x : VecInfo) (c : Gathered) (bit y : ℕ) (room list : List ℕ) where
 
 -- after the event it does not
 module _ {t : Lists} {v : ℕ} {x : VecInfo} (s : Seen t v x) {r : Rooms} {room list events values : List ℕ} {c : Gathered} {g : State} {o : Out} (h : Holds t r (mem_of room list events values) c g o) where
-  pub shown_settles : {room' events' values' : List ℕ} {q : Put} → turn.mk room' events' values' q ≡ show_vector x c.counts room events values → {n : Counts} → q ≡ Done n
+  pub shown_settles : {room' events' values' : List ℕ} {q : Put} → turn.mk room' events' values' q ≡ show_vector x c.counts room events values → {n : Counts} → q ≡ Some n
       → (bit y : ℕ) → bit < (layout_of t).width v → is_second x.info bit y room' ≡ false
   unfolding shown_state always clearing
   shown_settles e d bit y inside =

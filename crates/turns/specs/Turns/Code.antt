@@ -1,11 +1,10 @@
 -- What the proofs of the turns search.
 -- Assumes nothing.
-use Rattle.std.specs.Prelude.{ℕ, ◌+◌, ◌<◌, ◌≤◌, ◌≡◌, Bool, true, false, not, List, length}
+use Rattle.std.specs.Prelude.{ℕ, ◌+◌, ◌<◌, ◌≤◌, ◌≡◌, Bool, true, false, not, List, length, None, Some}
 use Rattle.std.proofs.Common.{sym, ◌∙◌, arith}
 use borrow.Author.Tests.{not-true, not-false}
 use Rattle.slices.specs.Splice.{splice}
 use Rattle.event_rooms.specs.declared.Counts.{Counts}
-use Rattle.event_rooms.specs.declared.Put.TheVariants.{Done, Full}
 use Rattle.records.specs.declared.Record.TheVariants.{Value}
 use Rattle.records.specs.Event.{record_bytes}
 use Rattle.event_rooms.specs.Out.Laws.{room_for, room_fits, counted}
@@ -69,7 +68,7 @@ module _ {room events values : List ℕ} {c : Counts} {x : VecInfo} (q : Showing
   ask_used = (q.in_events.used, q.in_values.used)
 
   module _ {m : Bool} (t : m ≡ room_for (length events) (length values) c 13 x.info.bytes) where
-    pub says_full : not m ≡ true → turn.mk room events values Full ≡ show_vector x c room events values
+    pub says_full : not m ≡ true → turn.mk room events values None ≡ show_vector x c room events values
     unfolding show_vector
     says_full z = rw (← t, not-true m z)
 
@@ -89,7 +88,7 @@ module _ {room events values : List ℕ} {c : Counts} {x : VecInfo} (q : Showing
       pub says_shown : {room' values' : List ℕ} → (room', values') ≡ taken x.info x.flags x.v c.values room values
           → {c' : Counts} → c' ≡ counted c 13 x.info.bytes 0
           → {events' : List ℕ} → events' ≡ splice events c.events (record_bytes (Value x.info.states x.reference c.values x.info.bytes))
-          → turn.mk room' events' values' (Done c') ≡ show_vector x c room events values
+          → turn.mk room' events' values' (Some c') ≡ show_vector x c room events values
       unfolding show_vector
       says_shown p n a = rw (← t, not-false m h, ← p, n, a)
 

@@ -1,16 +1,15 @@
 -- The test of the mask bytes.
 -- Assumes nothing.
-use Rattle.std.specs.Prelude.{◌≡◌, refl, ℕ, zero, suc, ◌+◌, ◌-◌, ◌*◌, ◌%◌, ◌^◌, ◌<◌, ◌≤◌, Bool, true, false, not, ◌&&◌, List, ◌∷◌, eqb, length, get_or}
+use Rattle.std.specs.Prelude.{◌≡◌, refl, ℕ, zero, suc, ◌+◌, ◌-◌, ◌*◌, ◌%◌, ◌^◌, ◌<◌, ◌≤◌, Bool, true, false, ◌&&◌, List, [], ◌∷◌, eqb, length, get_or, take, drop, IsTrue, EachIndex, ◌↔◌}
 use Rattle.std.proofs.Math.Path.{sym}
-use Rattle.std.proofs.Common.{ap, ◌∙◌, one-mul, add-one, arith, lit<, pow_pos, shl_exact, drop-cons}
-use borrow.Author.Tests.{eq-eqb, ne_eqb, not-true, not-false}
+use Rattle.std.proofs.Common.{◌∙◌, one-mul, arith, lit<, pow_pos, shl_exact, take_all, length-drop}
+use borrow.Author.Tests.{eq-eqb, ne_eqb, eqb-true}
 use Rattle.slices.specs.Splice.{part}
 use Rattle.states.specs.declared.States.TheVariants.{Two}
 use Rattle.states.specs.Kind.{bytes_required}
 use Rattle.vecmarks.specs.declared.VecBufferInfo.{VecBufferInfo}
-use Rattle.vecmarks.specs.Info.{marks_of, Inside}
+use Rattle.vecmarks.specs.Info.{marks_of}
 use Rattle.vecmarks.specs.Full.{all_full, full_in}
-use Rattle.vecmarks.specs.Full.Laws.{Filled}
 
 -- ---- the mask of the lowest bits
 
@@ -23,97 +22,102 @@ low_some k h = rw (shifted k h) (pow_pos k)
 pub low_is : (k : ℕ) → k < 8 → 1 * 2 ^ k % 256 - 1 ≡ 2 ^ k - 1
 low_is k h = rw (shifted k h)
 
-pub full_none : (room : List ℕ) (at n : ℕ) → Filled room at n 0
-full_none room at n = let e : at + 0 ≡ at = omega arith in let d : n - 0 ≡ n = omega arith in record { past = omega arith; left = rw (e, d) }
+-- ---- all bytes
 
-part_cons : (room : List ℕ) (at n : ℕ) → at < length room → part room at (suc n) ≡ get_or room at 0 ∷ part room (at + 1) n
-unfolding part
-part_cons room at n h = rw (drop-cons room at 0 h, add-one)
+both : (x y : Bool) → (x && y) ≡ true → (x ≡ true) × (y ≡ true)
+both true y e = (refl, e)
+both false y e = absurd (cc)
 
-module _ {room : List ℕ} {at n i : ℕ} (c : Filled room at n i) (o : i < n) (h : at + n ≤ length room) where
-  split : part room (at + i) (n - i) ≡ get_or room (at + i) 0 ∷ part room (at + (i + 1)) (n - (i + 1))
-  split =
-      let e : n - i ≡ suc (n - (i + 1)) = omega arith in
-      let f : at + i + 1 ≡ at + (i + 1) = omega arith in
-      rw (e, part_cons room (at + i) (n - (i + 1)) (omega arith), f)
+full_each : (l : List ℕ) → all_full l ≡ true → (k : ℕ) → k < length l → get_or l k 0 ≡ 255
+unfolding all_full
+full_each [] e k h = absurd (omega arith)
+full_each (b ∷ bs) e zero h = eqb-true b 255 (both (eqb b 255) (all_full bs) e).0
+full_each (b ∷ bs) e (suc k) h = full_each bs (both (eqb b 255) (all_full bs) e).1 k (omega arith)
 
-  pub full_more : get_or room (at + i) 0 ≡ 255 → Filled room at n (i + 1)
-  unfolding all_full
-  full_more e = record { past = omega arith; left = sym (rw (split, eq-eqb _ _ e)) ∙ c.left }
+each_full : (l : List ℕ) → ((k : ℕ) → k < length l → get_or l k 0 ≡ 255) → all_full l ≡ true
+unfolding all_full
+each_full [] f = refl
+each_full (b ∷ bs) f = rw (eq-eqb b 255 (f 0 (omega arith)), each_full bs (λ k h. f (suc k) (omega arith)))
 
-  pub full_not : (get_or room (at + i) 0 ≡ 255 → ⊥) → false ≡ all_full (part room at n)
-  unfolding all_full
-  full_not e = sym (rw (split, ne_eqb _ _ e)) ∙ c.left
-
-pub full_all : {room : List ℕ} {at n i : ℕ} → Filled room at n i → n ≤ i → true ≡ all_full (part room at n)
-unfolding all_full part
-full_all {n = n} {i = i} c h = let e : n - i ≡ 0 = omega arith in sym (rw e) ∙ c.left
+-- what `all` answers
+pub full_is : (l : List ℕ) (r : Bool) → (IsTrue r ↔ EachIndex l (λ k. get_or l k 0 ≡ 255)) → r ≡ all_full l
+full_is l true e = sym (each_full l (e.0 refl))
+full_is l false e = go (all_full l) refl
+  where
+    go : (b : Bool) → all_full l ≡ b → false ≡ all_full l
+    go true q = e.1 (full_each l q) ∙ sym q
+    go false q = sym q
 
 -- ---- the last byte first
 
-pub full_empty : (room : List ℕ) (at n : ℕ) → n ≡ 0 → true ≡ all_full (part room at n)
-full_empty room at n z = full_all (full_none room at n) (omega arith)
+pub full_empty : (l : List ℕ) → length l < 1 → true ≡ all_full l
+full_empty l h = sym (each_full l (λ k o. absurd (omega arith)))
 
--- a byte that is not full
-hole : (room : List ℕ) (at n k : ℕ) → at + n ≤ length room → k < n → (get_or room (at + k) 0 ≡ 255 → ⊥) → false ≡ all_full (part room at n)
+front_last : (l : List ℕ) → 1 ≤ length l → all_full l ≡ (all_full (take (length l - 1) l) && eqb (get_or l (length l - 1) 0) 255)
 unfolding all_full
-hole room at zero k h o f = absurd (omega arith)
-hole room at (suc n) zero h o f =
-    let z : at + 0 ≡ at = omega arith in
-    rw (part_cons room at n (omega arith), ne_eqb (get_or room at 0) 255 (rw z at f))
-hole room at (suc n) (suc k) h o f =
-    let d : at + suc k ≡ at + 1 + k = omega arith in
-    rw (part_cons room at n (omega arith), ← hole room (at + 1) n k (omega arith) (omega arith) (rw d at f)) (and_false (eqb (get_or room at 0) 255))
+front_last [] h = absurd (omega arith)
+front_last (b ∷ []) h = and_one (eqb b 255)
   where
-    and_false : (m : Bool) → false ≡ (m && false)
-    and_false true = refl
-    and_false false = refl
+    and_one : (x : Bool) → (x && true) ≡ x
+    and_one true = refl
+    and_one false = refl
+front_last (b ∷ (a ∷ l)) h =
+    let e : length (b ∷ (a ∷ l)) - 1 ≡ suc (length (a ∷ l) - 1) = omega arith in
+    rw e (rw (front_last (a ∷ l) (omega arith)) (and_and (eqb b 255) _ _))
+  where
+    and_and : (x y z : Bool) → (x && (y && z)) ≡ ((x && y) && z)
+    and_and true y z = refl
+    and_and false y z = refl
 
-pub full_last : (room : List ℕ) (at n : ℕ) → at + n ≤ length room → (n ≡ 0 → ⊥) → (get_or room (at + (n - 1)) 0 ≡ 255 → ⊥)
-    → false ≡ all_full (part room at n)
-full_last room at n h z f = hole room at n (n - 1) h (omega (arith, z)) f
+module _ (l : List ℕ) (h : 1 ≤ length l) where
+  pub full_front : {r : Bool} → r ≡ all_full (take (length l - 1) l) → eqb (get_or l (length l - 1) 0) 255 ≡ true → r ≡ all_full l
+  full_front {r} p q = p ∙ sym (front_last l h ∙ rw q (and_true _))
+    where
+      and_true : (x : Bool) → (x && true) ≡ x
+      and_true true = refl
+      and_true false = refl
+
+  pub full_last : eqb (get_or l (length l - 1) 0) 255 ≡ false → eqb (get_or l (length l - 1) 0) 255 ≡ all_full l
+  full_last q = q ∙ sym (front_last l h ∙ rw q (and_false _))
+    where
+      and_false : (x : Bool) → (x && false) ≡ false
+      and_false true = refl
+      and_false false = refl
 
 -- ---- the whole test
 
-module _ {room : List ℕ} {i : VecBufferInfo} (h : Inside room i) {n : ℕ} (bytes : n ≡ bytes_required Two i.width) where
-  pub ask_all : i.start + i.bytes + n ≤ length room
-  ask_all = rw bytes h.fits
+pub marks_are : (room : List ℕ) (i : VecBufferInfo) {n : ℕ} → n ≡ bytes_required Two i.width → take (i.start + i.bytes + n - (i.start + i.bytes)) (drop (i.start + i.bytes) room) ≡ marks_of i room
+unfolding part
+marks_are room i {n} e = let d : i.start + i.bytes + n - (i.start + i.bytes) ≡ n = omega arith in rw (d, e)
 
-  pub test_whole : i.width % 8 ≡ 0 → {r : Bool} → r ≡ all_full (part room (i.start + i.bytes) n) → r ≡ full_in i.width (marks_of i room)
+module _ (w : ℕ) (m : List ℕ) (h : length m ≡ bytes_required Two w) where
+  pub test_whole : w % 8 ≡ 0 → {r : Bool} → r ≡ all_full m → r ≡ full_in w m
   unfolding full_in
-  test_whole z e = rw (eq-eqb _ _ z, ← bytes) e
+  test_whole z e = rw (eq-eqb _ _ z) e
 
-  module _ (z : i.width % 8 ≡ 0 → ⊥) where
-    pub some_byte : 1 ≤ n
+  module _ (z : w % 8 ≡ 0 → ⊥) where
+    pub some_byte : 1 ≤ length m
     unfolding bytes_required
-    some_byte = omega (arith, z)
+    some_byte = omega (arith, h, z)
 
-    pub ask_rest : i.start + i.bytes + 1 + (n - 1) ≤ length room
-    ask_rest = omega (arith, some_byte, ask_all)
+    module _ {r : Bool} (e : r ≡ all_full (take (length m - 1) (drop 1 m))) where
+      rest : r ≡ all_full (drop 1 m)
+      rest = rw (take_all (length m - 1) (drop 1 m) (rw length-drop (omega arith))) at e
 
-    pub ask_first : i.start + i.bytes < length room
-    ask_first = omega (arith, some_byte, ask_all)
-
-    marks_are : marks_of i room ≡ get_or room (i.start + i.bytes) 0 ∷ part room (i.start + i.bytes + 1) (n - 1)
-    marks_are =
-        let e : n ≡ suc (n - 1) = omega (arith, some_byte) in
-        rw (← bytes) (ap (part room (i.start + i.bytes)) e ∙ part_cons room (i.start + i.bytes) (n - 1) ask_first)
-
-    module _ {r : Bool} (e : r ≡ all_full (part room (i.start + i.bytes + 1) (n - 1))) where
-      pub test_not : not r ≡ true → false ≡ full_in i.width (marks_of i room)
+      pub test_not : r ≡ false → r ≡ full_in w m
       unfolding full_in
-      test_not y = rw (ne_eqb _ _ z, marks_are, ← e, not-true r y)
+      test_not y = rw (ne_eqb _ _ z, ← rest, y)
 
-      pub test_first : not r ≡ false → {m : ℕ} → m ≡ 2 ^ (i.width % 8) - 1 → eqb (get_or room (i.start + i.bytes) 0) m ≡ full_in i.width (marks_of i room)
+      pub test_first : r ≡ true → {v : ℕ} → v ≡ 2 ^ (w % 8) - 1 → eqb (get_or m 0 0) v ≡ full_in w m
       unfolding full_in
-      test_first y d = rw (ne_eqb _ _ z, marks_are, ← e, not-false r y, d)
+      test_first y d = rw (ne_eqb _ _ z, ← rest, y, d)
 
 -- ---- what the proofs of the functions search
 
 pub ruleset low_laws = (low_some, low_is)
 
-pub ruleset full_laws = (full_none, full_more, full_not, full_all)
+pub ruleset last_laws = (full_empty, full_front, full_last)
 
-pub ruleset last_laws = (full_empty, full_last)
+pub ruleset test_laws = (test_whole, some_byte, test_not, test_first)
 
-pub ruleset test_laws = (ask_all, test_whole, some_byte, ask_rest, ask_first, test_not, test_first)
+pub ruleset marks_laws = (marks_are)

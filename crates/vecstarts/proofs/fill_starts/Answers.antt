@@ -1,4 +1,3 @@
--- Written by tools/proof-answers from proofs.map.
 use Rattle.std.proofs.Common.{rules}
 use Rattle.vecstarts.specs.Numbers.Laws.{fill_laws}
 use Rattle.vecstarts.proofs.fill_starts.Goals as goal

@@ -1,10 +1,5 @@
--- Written by tools/proof-answers from proofs.map.
-use Rattle.std.proofs.Common.{◌-◌, length}
 use Rattle.vecstarts.specs.Numbers.Laws.{Filling}
 use Rattle.vecstarts.proofs.fill_starts.Given as goal
 
 abbrev pub invariant-loop-i : goal.invariant-loop-i
 invariant-loop-i l = Filling l.mins l.maxs l.states l.initial.list l.at l.i l.list
-
-abbrev pub decreases-loop-i : goal.decreases-loop-i
-decreases-loop-i l = length l.mins - l.i

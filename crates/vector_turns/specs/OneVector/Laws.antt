@@ -1,6 +1,7 @@
 -- An item over the vector that it is for: what its turn asks, what is left to be run after it, and that its turns come to an end.
 -- Assumes nothing.
-use Rattle.std.specs.Prelude.{ℕ, ◌+◌, ◌-◌, ◌*◌, ◌%◌, ◌<◌, ◌≤◌, ◌≡◌, Bool, List, eqb, length, get_or}
+use Rattle.event_rooms.specs.Put.{Put}
+use Rattle.std.specs.Prelude.{ℕ, ◌+◌, ◌-◌, ◌*◌, ◌%◌, ◌<◌, ◌≤◌, ◌≡◌, Bool, List, eqb, length, get_or, Some}
 use Rattle.std.proofs.Math.Path.{refl, ap, subst}
 use Rattle.std.proofs.Common.{sym, ◌∙◌, true≢false, arith, eqb-true}
 use Rattle.std.proofs.Math.Bool.{true, false}
@@ -13,8 +14,6 @@ use Rattle.tables.specs.Checks.Laws.{nth_less}
 use Rattle.values.specs.Value.{Suits}
 use Rattle.rules.specs.Gather.{State, step_end}
 use Rattle.event_rooms.specs.declared.Counts.{Counts}
-use Rattle.event_rooms.specs.declared.Put.{Put}
-use Rattle.event_rooms.specs.declared.Put.TheVariants.{Done}
 use Rattle.event_rooms.specs.Out.{Rooms, Out}
 use Rattle.vecmarks.specs.Info.{is_second}
 use Rattle.vecstarts.specs.Numbers.{listed_in}
@@ -300,7 +299,7 @@ module _ {t : Lists} (k : Tabled t) {r : Rooms} {room list events values : List 
   quiet_at n Over q z s e d y = absurd q
   quiet_at n (Bad b) q z s e d y = absurd q
 
-  module _ {room'' events' values' : List ℕ} {p : Put} (f : turn.mk room'' events' values' p ≡ show_vector x c.counts room' events values) {n : Counts} (d : p ≡ Done n) where
+  module _ {room'' events' values' : List ℕ} {p : Put} (f : turn.mk room'' events' values' p ≡ show_vector x c.counts room' events values) {n : Counts} (d : p ≡ Some n) where
     -- .. a write whose event was made
     settled : (v id : ℕ) (q : ReadyBy t c (Write v id)) (z : for_vector t.vecs (Write v id) ≡ true) (s : Seen t (nth t.vecs id - 1) x) → mk room' list' w ≡ turned t.maxs x c (Write v id) room list
         → w.over ≡ false → to_turn (listed_as w n) (waits t room'' (Write v id)) < to_turn c (waits t room (Write v id))
@@ -342,6 +341,6 @@ module _ {t : Lists} (k : Tabled t) {r : Rooms} {room list events values : List 
     pub ready_quiet : w.over ≡ false → w.due ≡ false → (n : Counts) → to_turn (listed_as w n) (waits t room' a) < to_turn c (waits t room a)
     ready_quiet d y n = quiet_at n a q.ready z s e d y
 
-    pub ready_shown : w.over ≡ false → {room'' events' values' : List ℕ} {p : Put} → turn.mk room'' events' values' p ≡ show_vector x c.counts room' events values → {n : Counts} → p ≡ Done n
+    pub ready_shown : w.over ≡ false → {room'' events' values' : List ℕ} {p : Put} → turn.mk room'' events' values' p ≡ show_vector x c.counts room' events values → {n : Counts} → p ≡ Some n
         → to_turn (listed_as w n) (waits t room'' a) < to_turn c (waits t room a)
     ready_shown d f y = shown_at f y a q.ready z s e d
