@@ -1,13 +1,12 @@
 -- How a call ends whose code filled one output, and what the proofs of its end search.
 -- Assumes nothing.
-use Rattle.std.specs.Prelude.{◌≡◌, ℕ, ◌≤◌, List, [], length, take}
+use Rattle.std.specs.Prelude.{◌≡◌, ℕ, ◌≤◌, List, [], length, take, Ok}
 use Rattle.std.proofs.Common.{sym, ap, subst, ◌∙◌, zero-add, arith}
 use Rattle.slices.specs.Splice.{splice}
 use Rattle.slices.specs.Splice.Laws.{length_splice, take_splice}
 use Rattle.number_writer.specs.Ended.{Ended, Says, Fills}
 use Rattle.number_writer.specs.Ended as ended
-use Rattle.number_writer.specs.declared.Written.{Written}
-use Rattle.number_writer.specs.declared.Written.TheVariants.{Done, Refused}
+use Rattle.number_writer.specs.Written.{Written, Done, Refused}
 use Rattle.answers.specs.Outcome.{Outcome, accepted, refused, LeftKept, leaves_kept}
 
 -- "A request's other output counts as event bytes, with 0 value bytes; steps are then time records read."
@@ -17,11 +16,11 @@ filled (ended.refused n p) = refused n p
 
 -- how the code ended: the first bytes of the output are reported
 unfoldable pub filled_at : List ℕ → Written → Outcome
-filled_at out (Done read n steps) = accepted read (take n out) [] steps
+filled_at out (Ok w) = accepted w.read (take w.count out) [] w.steps
 filled_at out (Refused n p) = refused n p
 
 abbrev pub Reported : List ℕ → Written → Type 0
-Reported out (Done read n steps) = n ≤ length out
+Reported out (Ok w) = w.count ≤ length out
 Reported out (Refused n p) = Unit {0}
 
 -- the output has as many bytes as are reported
@@ -55,7 +54,7 @@ module _ {e : Ended} {room out : List ℕ} {w : Written} (f : Fills e room out w
   fills_within = record { reported = go w f.says }
     where
       go : (w : Written) → Says e room out w → Reported out w
-      go (Done read n steps) (bs, a, b, c, d) = rw b (rw (length_splice room 0 bs (omega (arith, c, d))) d)
+      go (Ok w) (bs, a, b, c, d) = rw b (rw (length_splice room 0 bs (omega (arith, c, d))) d)
       go (Refused n p) a = tt
 
   filled_at_lem : filled_at out w ≡ filled e
@@ -63,7 +62,7 @@ module _ {e : Ended} {room out : List ℕ} {w : Written} (f : Fills e room out w
   filled_at_lem = go w f.says
     where
       go : (w : Written) → Says e room out w → filled_at out w ≡ filled e
-      go (Done read n steps) (bs, a, b, c, d) = rw (a, front room bs n b c)
+      go (Ok w) (bs, a, b, c, d) = rw (a, front room bs w.count b c)
       go (Refused n p) a = rw a
 
   pub fills_end : length out ≡ length room → {x : LeftKept} → x ≡ leaves_kept (length out) (filled_at out w) → x ≡ leaves_kept (length room) (filled e)

@@ -5,7 +5,7 @@ ghost use Rattle.answers.specs.Outcome.{accepted, refused, LeftKept, leaves_kept
 ghost use Rattle.answers.specs.Filled.{filled_at, Within};
 
 use crate::{Answer, clear_past, refused};
-use number_writer::Written;
+use number_writer::{Done, Written};
 use slices::u64_of_usize;
 use tables::within_limit;
 
@@ -39,8 +39,8 @@ pub fn end_filled(out: &mut [u8], w: Written) -> Answer
     ensures { ◌≡◌ {A = LeftKept} (record { answer = result; kept = out.new }) (leaves_kept (length out.old) (filled_at out.old w)) }
 {
     match w {
-        Written::Done { read, count, steps } => accept_kept(out, read, count, steps),
-        Written::Refused(number, place) => refuse_kept(out, number, u64_of_usize(place)),
+        Ok(Done { read, count, steps }) => accept_kept(out, read, count, steps),
+        Err(refusal) => refuse_kept(out, refusal.number(), refusal.place() as u64),
     }
 }
 

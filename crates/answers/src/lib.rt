@@ -8,7 +8,7 @@ ghost use Rattle.answers.specs.Outcome.{answer, refused, padded};
 ghost use Rattle.answers.specs.Report.{report};
 
 use event_rooms::Counts;
-use slices::{clear_bytes, u64_of_usize};
+use slices::{clear, u64_of_usize};
 
 // Document 01's six numbers.
 #[repr(C)]
@@ -41,7 +41,7 @@ pub fn clear_past(out: &mut [u8], used: usize)
     requires { used ≤ length out.old }
     ensures { out.new ≡ padded (length out.old) (take used out.old) }
 {
-    clear_bytes(out, used, out.len() - used);
+    clear(out, used, out.len() - used, 0);
 }
 
 pub fn report(read: usize, c: Counts) -> Answer

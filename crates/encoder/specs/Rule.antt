@@ -4,8 +4,7 @@ use Rattle.std.specs.Prelude.{ℕ, zero, suc, ◌+◌, ◌-◌, Bool, true, fals
 use Rattle.slices.specs.Splice.{part}
 use Rattle.records.specs.declared.Record.{Record}
 use Rattle.records.specs.declared.Record.TheVariants.{Time, Value, Real}
-use Rattle.event_streams.specs.declared.Next.{Next}
-use Rattle.event_streams.specs.declared.Next.TheVariants.{Event, End, Bad}
+use Rattle.event_streams.specs.Next.{Next, Event, End, Bad}
 use Rattle.event_streams.specs.Stream.{next_event}
 use Rattle.encoder.specs.declared.Clock.{Clock}
 pub mod Promise

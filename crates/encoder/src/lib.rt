@@ -2,14 +2,17 @@
 #![tactic(auto)]
 
 ghost use Rattle.std.specs.Prelude.{◌≡◌, ◌≤◌, length, cond};
+ghost use Rattle.event_streams.specs.Next.{Event};
 ghost use Rattle.encoder.specs.Rule.{keeps, ticks, times};
 ghost use Rattle.encoder.specs.Rule.Promise.{Applies};
 ghost use Rattle.encoder.specs.Rule.Code.{Fit, Does, next_at};
 
-use event_streams::{Next, next_event};
-use number_writer::Written;
+use event_streams::next_event;
+use number_writer::{Done, Written};
 use records::Record;
+use refusals::{Reason, Refusal};
 use slices::copy_part;
+use std::ops::ControlFlow;
 
 // The last kept time, once there is one, and whether events are skipped.
 #[derive(Clone, Copy)]
@@ -28,11 +31,8 @@ struct Progress {
     steps: u64,
 }
 
-#[derive(Clone, Copy)]
-enum Turn {
-    More(Progress),
-    Over(Written),
-}
+// What one turn of the loop leads to.
+type Turn = ControlFlow<Written, Progress>;
 
 // "A larger one is kept"; "Value and real events are dropped while skipping."
 fn keeps(clock: Clock, event: Record) -> bool
@@ -104,15 +104,15 @@ fn room_taken(clock: Clock, event: Record, size: usize) -> usize
 // "Kept events are copied unaltered", where they fit.
 fn take_event(s: &[u8], kept: &mut [u8], p: Progress, event: Record, next: usize) -> Turn
     requires { Fit s.now kept.old p next }
-    ensures { Does s.now kept.old p (Next.Event event next) kept.new result }
+    ensures { Does s.now kept.old p (Event event next) kept.new result }
 {
     let size = next - p.read;
     let n = room_taken(p.clock, event, size);
     if kept.len() - p.kept < n {
-        return Turn::Over(Written::Refused(16, next));
+        return ControlFlow::Break(Err(Refusal(Reason::Full, next)));
     }
     copy_part(s, p.read, n, kept, p.kept);
-    Turn::More(Progress {
+    ControlFlow::Continue(Progress {
         clock: ticks(p.clock, event),
         read: next,
         kept: p.kept + n,
@@ -128,13 +128,13 @@ fn one(s: &[u8], values: usize, kept: &mut [u8], p: Progress) -> Turn
 {
     let clock = p.clock;
     match next_event(s, values, clock.begun, p.read) {
-        Next::Event(event, next) => take_event(s, kept, p, event, next),
-        Next::End => Turn::Over(Written::Done {
+        Ok(Some((event, next))) => take_event(s, kept, p, event, next),
+        Ok(None) => ControlFlow::Break(Ok(Done {
             read: p.read,
             count: p.kept,
             steps: p.steps,
-        }),
-        Next::Bad(number, place) => Turn::Over(Written::Refused(number, place)),
+        })),
+        Err(refusal) => ControlFlow::Break(Err(refusal)),
     }
 }
 
@@ -155,10 +155,10 @@ pub fn apply(s: &[u8], values: usize, kept: &mut [u8]) -> Written
     };
     loop {
         match one(s, values, kept, p) {
-            Turn::More(q) => {
+            ControlFlow::Continue(q) => {
                 p = q;
             }
-            Turn::Over(a) => {
+            ControlFlow::Break(a) => {
                 return a;
             }
         }

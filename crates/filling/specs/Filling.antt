@@ -1,13 +1,11 @@
 -- How far a call that fills one output has come.
 -- Assumes nothing.
-use Rattle.std.specs.Prelude.{◌≡◌, refl, ℕ, ◌+◌, ◌≤◌, ◌<◌, List, [], ◌++◌, length}
+use Rattle.std.specs.Prelude.{◌≡◌, refl, ℕ, ◌+◌, ◌≤◌, ◌<◌, List, [], ◌++◌, length, None, Option, Some}
 use Rattle.std.proofs.Common.{sym, ap, subst, ◌∙◌, add-zero, arith, length-append}
 use Rattle.slices.specs.Splice.Laws.{splice_nil, length_splice}
-use Rattle.slices.specs.declared.Field.{Field}
-use Rattle.slices.specs.declared.Field.TheVariants.{Next, Short}
 use Rattle.number_writer.specs.Ended.{wrote, refused, Fills}
 use Rattle.number_writer.specs.Put.{Puts, Lies, puts_more}
-use Rattle.number_writer.specs.declared.Written.TheVariants.{Done, Refused}
+use Rattle.number_writer.specs.Written.{Done, Refused}
 pub mod Steps
 pub mod Fuel
 
@@ -17,7 +15,7 @@ pub record FillingBy {H : Type 0} (bytes : H → List ℕ) (Left : H → Type 0)
     : Type 0 where
   pub held : H
   pub left : Left held
-  pub put : Puts room 0 (bytes held) out (Next n)
+  pub put : Puts room 0 (bytes held) out (Some n)
   pub long : length out ≡ length room
 
 -- .. where what has been written is bytes and no more
@@ -25,7 +23,7 @@ abbrev pub Filling : (Left : List ℕ → Type 0) (room : List ℕ) (n : ℕ) (o
 Filling Left room n out = FillingBy (λ bs. bs) Left room n out
 
 -- no bytes put
-pub puts_none : (out : List ℕ) (at : ℕ) → at ≤ length out → Puts out at [] out (Next at)
+pub puts_none : (out : List ℕ) (at : ℕ) → at ≤ length out → Puts out at [] out (Some at)
 puts_none out at h = record { lies = (splice_nil out at, sym (add-zero at), h) }
 
 module _ {H : Type 0} {bytes : H → List ℕ} {Left : H → Type 0} where
@@ -47,12 +45,12 @@ module _ {H : Type 0} {bytes : H → List ℕ} {Left : H → Type 0} where
     filling_stay l = record { held = o.held; left = l; put = o.put; long = o.long }
 
     -- some bytes more
-    module _ {bs out' : List ℕ} {f : Field} (q : Puts out n bs out' f) where
+    module _ {bs out' : List ℕ} {f : Option ℕ} (q : Puts out n bs out' f) where
       pub filling_behind : Puts room 0 (bytes o.held ++ bs) out' f
       filling_behind = puts_more o.put refl bs q
 
-      module _ {c : ℕ} (e : f ≡ Next c) where
-        fitted : Lies room 0 (bytes o.held ++ bs) out' (Next c)
+      module _ {c : ℕ} (e : f ≡ Some c) where
+        fitted : Lies room 0 (bytes o.held ++ bs) out' (Some c)
         fitted = subst (Lies room 0 (bytes o.held ++ bs) out') e filling_behind.lies
 
         pub filling_fits : length (bytes o.held) + length bs ≤ length room
@@ -70,7 +68,7 @@ module _ {H : Type 0} {bytes : H → List ℕ} {Left : H → Type 0} where
             record { says = (bytes o.held ++ bs, refl, fitted.0, omega (arith, fitted.1), fitted.2) }
 
       -- .. that do not fit
-      pub filling_full : f ≡ Short → length room < length (bytes o.held) + length bs
+      pub filling_full : f ≡ None → length room < length (bytes o.held) + length bs
       filling_full e =
           let l = subst (Lies room 0 (bytes o.held ++ bs) out') e filling_behind.lies in
           omega (arith, l, length-append (bytes o.held) bs)

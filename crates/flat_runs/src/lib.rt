@@ -4,8 +4,6 @@
 ghost use Rattle.std.specs.Prelude.{◌≡◌, ◌+◌, ◌*◌, ◌≤◌, length, replicate};
 ghost use Rattle.slices.specs.Splice.{part};
 
-use slices::clear_numbers;
-
 // A run of `n` numbers.
 fn run_of(flat: &[u32], at: usize, n: usize) -> &[u32]
     requires { at + n ≤ length flat.now }
@@ -39,5 +37,5 @@ pub fn references(flat: &[u32], v: usize) -> &[u32]
 pub fn clear_all(flat: &mut [u32])
     ensures { flat.new ≡ replicate (length flat.old) 0 }
 {
-    clear_numbers(flat, 0, flat.len());
+    flat.fill(0);
 }

@@ -10,26 +10,27 @@ ghost use Rattle.fragments.specs.Counting.Turn.{Finishes, Asks, Lasts, Stepping,
 
 use fragment_records::held_bytes;
 use fragment_steps::end_step;
-use fragments::{Going, Progress, Put, Turn};
-use number_writer::{Written, put_bytes};
+use fragments::{Progress, Turn};
+use number_writer::{Done, Written, put_bytes};
+use refusals::{Reason, Refusal};
 use sessions::Bench;
-use slices::Field;
+use std::ops::ControlFlow;
 use step_ends::{Names, Seen, Watch, see};
 
 // The record of the session at a place, where one is live.
-fn put_place(out: &mut [u8], at: usize, bench: Bench, k: usize) -> Field
+fn put_place(out: &mut [u8], at: usize, bench: Bench, k: usize) -> Option<usize>
     requires { (k < 32) × (at ≤ length out.old) }
     ensures { Puts out.old at (bytes_of (held_at bench k)) out.new result }
 {
     if bench.counts[k] == 0 {
-        return Field::Next(at);
+        return Some(at);
     }
     let bytes = held_bytes(bench.sessions[k], bench.counts[k]);
     put_bytes(out, at, &bytes)
 }
 
 // Each live session, in the order of its place.
-fn put_held(out: &mut [u8], at: usize, bench: Bench) -> Field
+fn put_held(out: &mut [u8], at: usize, bench: Bench) -> Option<usize>
     requires { at ≤ length out.old }
     ensures { Puts out.old at (bytes_of (held_of bench)) out.new result }
 {
@@ -37,16 +38,16 @@ fn put_held(out: &mut [u8], at: usize, bench: Bench) -> Field
     let mut k: usize = 0;
     while k < 32 {
         match put_place(out, count, bench, k) {
-            Field::Next(next) => {
+            Some(next) => {
                 count = next;
                 k += 1;
             }
-            Field::Short => {
-                return Field::Short;
+            None => {
+                return None;
             }
         }
     }
-    Field::Next(count)
+    Some(count)
 }
 
 // What is held at the input's end, after so many steps.
@@ -55,12 +56,12 @@ fn finish(out: &mut [u8], count: usize, bench: Bench, read: usize, steps: u64) -
     ensures { Finishes out.old count bench read steps out.new result }
 {
     match put_held(out, count, bench) {
-        Field::Next(written) => Written::Done {
+        Some(written) => Ok(Done {
             read,
             count: written,
             steps,
-        },
-        Field::Short => Written::Refused(16, read),
+        }),
+        None => Err(Refusal(Reason::Full, read)),
     }
 }
 
@@ -76,8 +77,8 @@ fn one_end(out: &mut [u8], bench: Bench, p: Progress) -> Written
         let held = last.bench;
         let put = last.put;
         match put {
-            Put::Next(count) => finish(out, count, held, p.read, p.steps + 1),
-            Put::Refused(number, place) => Written::Refused(number, place),
+            Ok(count) => finish(out, count, held, p.read, p.steps + 1),
+            Err(refusal) => Err(refusal),
         }
     } else {
         finish(out, p.count, bench, p.read, p.steps)
@@ -95,9 +96,9 @@ fn one_step(out: &mut [u8], bench: Bench, p: Progress, opened: Watch, next: usiz
     let then = ended.bench;
     let put = ended.put;
     match put {
-        Put::Next(count) => Turn {
+        Ok(count) => Turn {
             bench: then,
-            going: Going::More(Progress {
+            going: ControlFlow::Continue(Progress {
                 watch: opened,
                 before: watch,
                 read: next,
@@ -105,9 +106,9 @@ fn one_step(out: &mut [u8], bench: Bench, p: Progress, opened: Watch, next: usiz
                 steps: p.steps + 1,
             }),
         },
-        Put::Refused(number, place) => Turn {
+        Err(refusal) => Turn {
             bench,
-            going: Going::Over(Written::Refused(number, place)),
+            going: ControlFlow::Break(Err(refusal)),
         },
     }
 }
@@ -120,9 +121,9 @@ fn one(names: Names, s: &[u8], values: &[u8], out: &mut [u8], bench: Bench, p: P
     let before = p.before;
     let watch = p.watch;
     match see(names, s, values, watch, p.read) {
-        Seen::More(shown, next) => Turn {
+        Ok(Seen::More(shown, next)) => Turn {
             bench,
-            going: Going::More(Progress {
+            going: ControlFlow::Continue(Progress {
                 watch: shown,
                 before,
                 read: next,
@@ -130,14 +131,14 @@ fn one(names: Names, s: &[u8], values: &[u8], out: &mut [u8], bench: Bench, p: P
                 steps: p.steps,
             }),
         },
-        Seen::Step(opened, next) => one_step(out, bench, p, opened, next),
-        Seen::End => Turn {
+        Ok(Seen::Step(opened, next)) => one_step(out, bench, p, opened, next),
+        Ok(Seen::End) => Turn {
             bench,
-            going: Going::Over(one_end(out, bench, p)),
+            going: ControlFlow::Break(one_end(out, bench, p)),
         },
-        Seen::Bad(number, place) => Turn {
+        Err(refusal) => Turn {
             bench,
-            going: Going::Over(Written::Refused(number, place)),
+            going: ControlFlow::Break(Err(refusal)),
         },
     }
 }
@@ -169,10 +170,10 @@ pub fn count_fragments(names: Names, s: &[u8], values: &[u8], out: &mut [u8]) ->
         bench = turn.bench;
         let going = turn.going;
         match going {
-            Going::More(q) => {
+            ControlFlow::Continue(q) => {
                 p = q;
             }
-            Going::Over(written) => {
+            ControlFlow::Break(written) => {
                 return written;
             }
         }

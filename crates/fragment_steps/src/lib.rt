@@ -8,10 +8,10 @@ ghost use Rattle.fragments.specs.Counting.{counting, closing, closes, step_end};
 ghost use Rattle.fragments.specs.Counting.Step.{To, Lives};
 
 use fragment_records::{closed_bytes, fragment_bytes};
-use fragments::{Put, Stepped, rose, seat};
+use fragments::{Stepped, rose, seat};
 use number_writer::put_bytes;
+use refusals::{Reason, Refusal};
 use sessions::{Bench, dropped, place_of};
-use slices::Field;
 use step_ends::Watch;
 
 // One fragment, counted to the session value then shown.
@@ -28,10 +28,10 @@ fn count_fragment(
 {
     let bytes = fragment_bytes(watch.time, watch.session);
     match put_bytes(out, count, &bytes) {
-        Field::Next(written) => seat(bench, watch, at, written),
-        Field::Short => Stepped {
+        Some(written) => seat(bench, watch, at, written),
+        None => Stepped {
             bench,
-            put: Put::Refused(16, next),
+            put: Err(Refusal(Reason::Full, next)),
         },
     }
 }
@@ -53,7 +53,7 @@ fn count_rise(
     }
     Stepped {
         bench,
-        put: Put::Next(count),
+        put: Ok(count),
     }
 }
 
@@ -71,13 +71,13 @@ fn drop_session(
 {
     let bytes = closed_bytes(watch.time, watch.session, bench.counts[k]);
     match put_bytes(out, count, &bytes) {
-        Field::Next(written) => Stepped {
+        Some(written) => Stepped {
             bench: dropped(bench, k),
-            put: Put::Next(written),
+            put: Ok(written),
         },
-        Field::Short => Stepped {
+        None => Stepped {
             bench,
-            put: Put::Refused(16, next),
+            put: Err(Refusal(Reason::Full, next)),
         },
     }
 }
@@ -90,7 +90,7 @@ fn close_session(bench: Bench, out: &mut [u8], count: usize, watch: Watch, next:
     if watch.close != 1 {
         return Stepped {
             bench,
-            put: Put::Next(count),
+            put: Ok(count),
         };
     }
     let k = place_of(bench, watch.session);
@@ -99,7 +99,7 @@ fn close_session(bench: Bench, out: &mut [u8], count: usize, watch: Watch, next:
     }
     Stepped {
         bench,
-        put: Put::Next(count),
+        put: Ok(count),
     }
 }
 
@@ -120,10 +120,10 @@ pub fn end_step(
     let counted_bench = first.bench;
     let put = first.put;
     match put {
-        Put::Next(written) => close_session(counted_bench, out, written, watch, next),
-        Put::Refused(number, place) => Stepped {
+        Ok(written) => close_session(counted_bench, out, written, watch, next),
+        Err(refusal) => Stepped {
             bench,
-            put: Put::Refused(number, place),
+            put: Err(refusal),
         },
     }
 }

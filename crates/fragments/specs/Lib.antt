@@ -1,2 +1,4 @@
 pub mod Counting
+pub mod Going
+pub mod Put
 pub mod Theorems

@@ -8,21 +8,16 @@ ghost use Rattle.fragments.specs.Counting.{seated};
 ghost use Rattle.fragments.specs.Counting.Step.{Answers};
 
 use number_writer::Written;
+use refusals::{Reason, Refusal};
 use sessions::{Bench, counted, place_for};
+use std::ops::ControlFlow;
 use step_ends::Watch;
-
-// How many bytes have been written, or a refusal's number and place.
-#[derive(Clone, Copy)]
-pub enum Put {
-    Next(usize),
-    Refused(u64, usize),
-}
 
 // The bench after a step's end, or after a part of it.
 #[derive(Clone, Copy)]
 pub struct Stepped {
     pub bench: Bench,
-    pub put: Put,
+    pub put: Result<usize, Refusal>,
 }
 
 // How far the stream has been read: what is shown, what was at the last step's end, the bytes read and written, and the steps ended.
@@ -35,11 +30,8 @@ pub struct Progress {
     pub steps: u64,
 }
 
-#[derive(Clone, Copy)]
-pub enum Going {
-    More(Progress),
-    Over(Written),
-}
+// What one turn of the loop leads to.
+pub type Going = ControlFlow<Written, Progress>;
 
 #[derive(Clone, Copy)]
 pub struct Turn {
@@ -56,12 +48,12 @@ pub fn seat(bench: Bench, watch: Watch, at: usize, count: usize) -> Stepped
     if k < 32 {
         return Stepped {
             bench: counted(bench, k, watch.session),
-            put: Put::Next(count),
+            put: Ok(count),
         };
     }
     Stepped {
         bench,
-        put: Put::Refused(21, at),
+        put: Err(Refusal(Reason::Sessions, at)),
     }
 }
 

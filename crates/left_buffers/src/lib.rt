@@ -7,15 +7,15 @@ ghost use Rattle.left_buffers.specs.Left.{left_of, lent_of, Used, Ready};
 
 use answers::{Answer, clear_past, refused, report};
 use event_rooms::Counts;
-use slices::{clear_bytes, clear_numbers};
+use slices::clear;
 
 // What was used of the working buffers becomes zero, the first `n` bytes and the first `v` numbers: there are zeros past them.
 pub fn clear_used(room: &mut [u8], list: &mut [u32], n: usize, v: usize)
     requires { Used n v room.old list.old }
     ensures { (room.new ≡ replicate (length room.old) 0) × (list.new ≡ replicate (length list.old) 0) }
 {
-    clear_bytes(room, 0, n);
-    clear_numbers(list, 0, v);
+    clear(room, 0, n, 0);
+    clear(list, 0, v, 0);
 }
 
 // A refusal: every output becomes zero, and what was used of the working buffers.

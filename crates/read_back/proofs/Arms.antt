@@ -1,5 +1,6 @@
 -- The last arms of matches on what is said, which name no variant: what they leave.
 -- Assumes nothing.
+use Rattle.refusals.specs.Numbers.{Numbered}
 use mathlib.Core.Path.{◌≡◌, refl}
 use mathlib.Core.Bool.{false}
 use Prim.Native.Nat.{ℕ}
@@ -31,7 +32,7 @@ other_times StepEnd h = refl
 other_times Over h = refl
 other_times (Bad n) h = refl
 
-pub other_ends : (a : Said) → (a ≡ Over → ⊥) → ((n : ℕ) → a ≡ Bad n → ⊥) → ends a ≡ false
+pub other_ends : (a : Said) → (a ≡ Over → ⊥) → ((n : Numbered) → a ≡ Bad n → ⊥) → ends a ≡ false
 other_ends Nothing o b = refl
 other_ends (Time u) o b = refl
 other_ends (Write v id) o b = refl

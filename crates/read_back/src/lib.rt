@@ -12,13 +12,14 @@ ghost use Rattle.read_back.specs.ReadBack.{byte_of, write_of, read_back};
 ghost use Rattle.read_back.specs.ReadBack.Loop.{Ready, step_at};
 ghost use Rattle.read_back.specs.ReadBack.Turn.{Small, Fitting, Sounds, Counts, Does, said_bytes, taking};
 
-use number_writer::{Written, put_byte, put_bytes, put_fixed};
+use number_writer::{Done, Written, put_byte, put_bytes, put_fixed};
 use numbers::house::put_u32;
-use section_heads::{Phase, Said, Stand, standing};
+use refusals::{Reason, Refusal};
+use section_heads::{Item, Phase, Said, Stand, standing};
 use section_items::next_item;
 use sections::signal_kind;
-use slices::Field;
 use states::to_ieee1164;
+use std::ops::ControlFlow;
 use values::How;
 
 // How far the bytes have been read, and how many bytes of records have been written.
@@ -30,13 +31,10 @@ struct Progress {
     steps: u64,
 }
 
-#[derive(Clone, Copy)]
-enum Turn {
-    More(Progress),
-    Stops(Written),
-}
+// What one turn of the loop leads to.
+type Turn = ControlFlow<Written, Progress>;
 
-fn put_id(out: &mut [u8], at: usize, id: usize) -> Field
+fn put_id(out: &mut [u8], at: usize, id: usize) -> Option<usize>
     ensures { (result ≡ field_of 4 out.old at) × (out.new ≡ after_put out.old at (big_bytes 4 id)) }
 {
     let mut bytes: [u8; 4] = [0; 4];
@@ -44,23 +42,19 @@ fn put_id(out: &mut [u8], at: usize, id: usize) -> Field
     put_bytes(out, at, &bytes)
 }
 
-fn put_time_record(out: &mut [u8], at: usize, u: u64) -> Field
+fn put_time_record(out: &mut [u8], at: usize, u: u64) -> Option<usize>
     ensures { Puts out.old at (1 ∷ big_bytes 8 u) out.new result }
 {
-    match put_byte(out, at, 1) {
-        Field::Next(next) => put_fixed(out, next, true, u),
-        Field::Short => Field::Short,
-    }
+    let next = put_byte(out, at, 1)?;
+    put_fixed(out, next, true, u)
 }
 
 // The kind of a write and its id.
-fn put_head(out: &mut [u8], at: usize, record_kind: u8, id: usize) -> Field
+fn put_head(out: &mut [u8], at: usize, record_kind: u8, id: usize) -> Option<usize>
     ensures { Puts out.old at (record_kind ∷ big_bytes 4 id) out.new result }
 {
-    match put_byte(out, at, record_kind) {
-        Field::Next(next) => put_id(out, next, id),
-        Field::Short => Field::Short,
-    }
+    let next = put_byte(out, at, record_kind)?;
+    put_id(out, next, id)
 }
 
 // The byte of a value, in the order of sections.
@@ -74,27 +68,23 @@ fn byte_of(kind: u8, value: u64) -> u8
     value as u8
 }
 
-fn put_byte_write(out: &mut [u8], at: usize, kind: u8, id: usize, value: u64) -> Field
+fn put_byte_write(out: &mut [u8], at: usize, kind: u8, id: usize, value: u64) -> Option<usize>
     requires { (kind ≤ 4) × Small kind value }
     ensures { Puts out.old at (write_of kind id value) out.new result }
 {
-    match put_head(out, at, 2, id) {
-        Field::Next(next) => put_byte(out, next, byte_of(kind, value)),
-        Field::Short => Field::Short,
-    }
+    let next = put_head(out, at, 2, id)?;
+    put_byte(out, next, byte_of(kind, value))
 }
 
-fn put_wide_write(out: &mut [u8], at: usize, kind: u8, id: usize, value: u64) -> Field
+fn put_wide_write(out: &mut [u8], at: usize, kind: u8, id: usize, value: u64) -> Option<usize>
     requires { 4 < kind }
     ensures { Puts out.old at (write_of kind id value) out.new result }
 {
-    match put_head(out, at, 3, id) {
-        Field::Next(next) => put_fixed(out, next, true, value),
-        Field::Short => Field::Short,
-    }
+    let next = put_head(out, at, 3, id)?;
+    put_fixed(out, next, true, value)
 }
 
-fn put_write_record(out: &mut [u8], at: usize, kind: u8, id: usize, value: u64) -> Field
+fn put_write_record(out: &mut [u8], at: usize, kind: u8, id: usize, value: u64) -> Option<usize>
     requires { Fitting kind value }
     ensures { Puts out.old at (write_of kind id value) out.new result }
 {
@@ -105,7 +95,7 @@ fn put_write_record(out: &mut [u8], at: usize, kind: u8, id: usize, value: u64) 
 }
 
 // The record of what is said, where it is something.
-fn put_said(kinds: &[u8], out: &mut [u8], at: usize, said: Said) -> Field
+fn put_said(kinds: &[u8], out: &mut [u8], at: usize, said: Said) -> Option<usize>
     requires { (at ≤ length out.old) × Sounds kinds.now said }
     ensures { Puts out.old at (said_bytes kinds.now said) out.new result }
 {
@@ -113,7 +103,7 @@ fn put_said(kinds: &[u8], out: &mut [u8], at: usize, said: Said) -> Field
         Said::Time(u) => put_time_record(out, at, u),
         Said::Write { value, id } => put_write_record(out, at, signal_kind(kinds, id), id, value),
         Said::StepEnd => put_byte(out, at, 4),
-        _ => Field::Next(at),
+        _ => Some(at),
     }
 }
 
@@ -127,27 +117,20 @@ fn times_said(said: Said) -> u64
 }
 
 // An item that says something, or nothing.
-fn take_item(
-    kinds: &[u8],
-    out: &mut [u8],
-    p: Progress,
-    next: usize,
-    said: Said,
-    mode: Stand,
-) -> Turn
-    requires { (p.count ≤ length out.old) × Sounds kinds.now said × Counts p said next }
-    ensures { let step = taking kinds.now p.steps next said mode in
+fn take_item(kinds: &[u8], out: &mut [u8], p: Progress, item: Item) -> Turn
+    requires { (p.count ≤ length out.old) × Sounds kinds.now item.said × Counts p item.said item.at }
+    ensures { let step = taking kinds.now p.steps item.at item.said item.then in
         Does out.old p step out.new result }
 {
-    let k = times_said(said);
-    match put_said(kinds, out, p.count, said) {
-        Field::Next(count) => Turn::More(Progress {
-            mode,
-            read: next,
+    let k = times_said(item.said);
+    match put_said(kinds, out, p.count, item.said) {
+        Some(count) => ControlFlow::Continue(Progress {
+            mode: item.then,
+            read: item.at,
             count,
             steps: p.steps + k,
         }),
-        Field::Short => Turn::Stops(Written::Refused(16, next)),
+        None => ControlFlow::Break(Err(Refusal(Reason::Full, item.at))),
     }
 }
 
@@ -160,15 +143,14 @@ fn one_item(kinds: &[u8], how: How, s: &[u8], out: &mut [u8], p: Progress) -> Tu
     let mode = p.mode;
     let item = next_item(kinds, how, s, mode, p.read);
     let said = item.said;
-    let then = item.then;
     match said {
-        Said::Over => Turn::Stops(Written::Done {
+        Said::Over => ControlFlow::Break(Ok(Done {
             read: item.at,
             count: p.count,
             steps: p.steps,
-        }),
-        Said::Bad(number) => Turn::Stops(Written::Refused(number, item.at)),
-        _ => take_item(kinds, out, p, item.at, said, then),
+        })),
+        Said::Bad(refusal) => ControlFlow::Break(Err(refusal)),
+        _ => take_item(kinds, out, p, item),
     }
 }
 
@@ -189,10 +171,10 @@ pub fn read_back(kinds: &[u8], big_endian: bool, s: &[u8], out: &mut [u8]) -> Wr
     };
     loop {
         match one_item(kinds, how, s, out, p) {
-            Turn::More(q) => {
+            ControlFlow::Continue(q) => {
                 p = q;
             }
-            Turn::Stops(a) => {
+            ControlFlow::Break(a) => {
                 return a;
             }
         }

@@ -10,22 +10,23 @@ ghost use Rattle.sections_writer.specs.Writer.{given, timed, wrote_to, stepped, 
 ghost use Rattle.sections_writer.specs.Writer.Turn.{EndsIn, IdOf, gone_to, Does};
 
 use changes::{Change, next_change};
-use number_writer::{Written, put_byte};
+use number_writer::{Done, Written, put_byte};
+use refusals::{Reason, Refusal};
 use section_closing::put_closing;
 use sections_writer::{Pen, Progress, Turn, put_time, put_write, time_good};
-use slices::Field;
+use std::ops::ControlFlow;
 
 // After the bytes of a record that ends before `next`.
-fn gone(pen: Pen, next: usize, put: Field) -> Turn
+fn gone(pen: Pen, next: usize, put: Option<usize>) -> Turn
     ensures { result ≡ gone_to pen next put }
 {
     match put {
-        Field::Next(count) => Turn::More(Progress {
+        Some(count) => ControlFlow::Continue(Progress {
             pen,
             read: next,
             count,
         }),
-        Field::Short => Turn::Over(Written::Refused(16, next)),
+        None => ControlFlow::Break(Err(Refusal(Reason::Full, next))),
     }
 }
 
@@ -76,7 +77,7 @@ fn one_time(out: &mut [u8], p: Progress, big_endian: bool, u: u64, next: usize) 
             put_time(out, p.count, big_endian, pen, u),
         );
     }
-    Turn::Over(Written::Refused(23, p.read))
+    ControlFlow::Break(Err(Refusal(Reason::TimeFalls, p.read)))
 }
 
 // A write: 22.
@@ -100,7 +101,7 @@ fn one_write(
             put_write(out, p.count, pen, kind, id, value, s, next),
         );
     }
-    Turn::Over(Written::Refused(22, p.read))
+    ControlFlow::Break(Err(Refusal(Reason::IdsFall, p.read)))
 }
 
 fn one_step_end(out: &mut [u8], p: Progress, next: usize) -> Turn
@@ -117,12 +118,12 @@ fn one_end(out: &mut [u8], p: Progress, next: usize) -> Turn
 {
     let pen = p.pen;
     match put_closing(out, p.count, pen) {
-        Field::Next(count) => Turn::Over(Written::Done {
+        Some(count) => ControlFlow::Break(Ok(Done {
             read: next,
             count,
             steps: pen.steps,
-        }),
-        Field::Short => Turn::Over(Written::Refused(16, next)),
+        })),
+        None => ControlFlow::Break(Err(Refusal(Reason::Full, next))),
     }
 }
 
@@ -140,13 +141,13 @@ fn one_record(kinds: &[u8], big_endian: bool, s: &[u8], out: &mut [u8], p: Progr
 {
     let pen = p.pen;
     match next_change(kinds, s, pen.inside, p.read) {
-        Change::Time(u, next) => one_time(out, p, big_endian, u, next),
-        Change::Write { id, value, next } => {
+        Ok(Change::Time(u, next)) => one_time(out, p, big_endian, u, next),
+        Ok(Change::Write { id, value, next }) => {
             one_write(out, p, signal_kind(kinds, id), id, value, s, next)
         }
-        Change::StepEnd(next) => one_step_end(out, p, next),
-        Change::End(next) => one_end(out, p, next),
-        Change::Bad(number, place) => Turn::Over(Written::Refused(number, place)),
+        Ok(Change::StepEnd(next)) => one_step_end(out, p, next),
+        Ok(Change::End(next)) => one_end(out, p, next),
+        Err(refusal) => ControlFlow::Break(Err(refusal)),
     }
 }
 
@@ -167,10 +168,10 @@ pub fn write_sections(kinds: &[u8], big_endian: bool, s: &[u8], out: &mut [u8]) 
     };
     loop {
         match one_record(kinds, big_endian, s, out, p) {
-            Turn::More(q) => {
+            ControlFlow::Continue(q) => {
                 p = q;
             }
-            Turn::Over(a) => {
+            ControlFlow::Break(a) => {
                 return a;
             }
         }

@@ -7,8 +7,7 @@ use Rattle.leb128.specs.Shortest.{unsigned_bytes, signed_bytes}
 use Rattle.number_writer.specs.Little.{little_bytes, fixed_bytes}
 use Rattle.tables.specs.Lists.{Lists, nth}
 use Rattle.changes.specs.Changes.{next_change}
-use Rattle.changes.specs.declared.Change.{Change}
-use Rattle.changes.specs.declared.Change.TheVariants.{Time, Write, StepEnd, End, Bad}
+use Rattle.changes.specs.Change.{ChangeFound, Time, Write, StepEnd, End, Bad}
 use Rattle.sections_writer.specs.declared.Pen.{Pen}
 pub mod Turn
 pub mod Loop
@@ -62,7 +61,7 @@ given_time flag p i u j = cond (time_good p u) (goes (time_bytes flag p u) (time
 unfoldable pub given_write : List ℕ → Pen → (i kind id v j : ℕ) → Given
 given_write s p i kind id v j = cond (ltb p.id id) (goes (write_bytes p kind id v s j) (wrote_to p id) j) (stops 22 i)
 
-unfoldable pub given : Lists → Bool → List ℕ → Pen → (i : ℕ) → Change → Given
+unfoldable pub given : Lists → Bool → List ℕ → Pen → (i : ℕ) → ChangeFound → Given
 given t flag s p i (Time u j) = given_time flag p i u j
 given t flag s p i (Write id v j) = given_write s p i (nth t.kinds id) id v j
 given t flag s p i (StepEnd j) = goes (0 ∷ []) (stepped p) j

@@ -10,7 +10,7 @@ ghost use Rattle.sections_writer.specs.Writer.Turn.{EndsIn};
 
 use number_writer::{Written, put_byte, put_bytes, put_fixed, put_signed, put_unsigned};
 use numbers::marks::CYC;
-use slices::Field;
+use std::ops::ControlFlow;
 
 // Where the writing stands: inside a step or not, the steps opened so far, the last one's time, and its last id.
 #[derive(Clone, Copy)]
@@ -29,11 +29,8 @@ pub struct Progress {
     pub count: usize,
 }
 
-#[derive(Clone, Copy)]
-pub enum Turn {
-    More(Progress),
-    Over(Written),
-}
+// What one turn of the loop leads to.
+pub type Turn = ControlFlow<Written, Progress>;
 
 // "Times must not fall, neighbouring times differ by at most 2^63-1".
 pub fn time_good(pen: Pen, u: u64) -> bool
@@ -49,17 +46,15 @@ pub fn time_good(pen: Pen, u: u64) -> bool
 }
 
 // The cycle's mark and its time.
-fn put_first(out: &mut [u8], at: usize, big_endian: bool, u: u64) -> Field
+fn put_first(out: &mut [u8], at: usize, big_endian: bool, u: u64) -> Option<usize>
     ensures { Puts out.old at (cyc ++ fixed_bytes big_endian 8 u) out.new result }
 {
-    match put_bytes(out, at, &CYC) {
-        Field::Next(next) => put_fixed(out, next, big_endian, u),
-        Field::Short => Field::Short,
-    }
+    let next = put_bytes(out, at, &CYC)?;
+    put_fixed(out, next, big_endian, u)
 }
 
 // The first time as it is, a later one as a delta.
-pub fn put_time(out: &mut [u8], at: usize, big_endian: bool, pen: Pen, u: u64) -> Field
+pub fn put_time(out: &mut [u8], at: usize, big_endian: bool, pen: Pen, u: u64) -> Option<usize>
     requires { time_good pen u ≡ true }
     ensures { Puts out.old at (time_bytes big_endian pen u) out.new result }
 {
@@ -70,7 +65,14 @@ pub fn put_time(out: &mut [u8], at: usize, big_endian: bool, pen: Pen, u: u64) -
 }
 
 // A value whose record ends before `next`.
-fn put_value(out: &mut [u8], at: usize, kind: u8, value: u64, s: &[u8], next: usize) -> Field
+fn put_value(
+    out: &mut [u8],
+    at: usize,
+    kind: u8,
+    value: u64,
+    s: &[u8],
+    next: usize,
+) -> Option<usize>
     requires { EndsIn s.now next }
     ensures { Puts out.old at (value_bytes kind value s.now next) out.new result }
 {
@@ -93,12 +95,10 @@ pub fn put_write(
     value: u64,
     s: &[u8],
     next: usize,
-) -> Field
+) -> Option<usize>
     requires { (pen.id < id) × EndsIn s.now next }
     ensures { Puts out.old at (write_bytes pen kind id value s.now next) out.new result }
 {
-    match put_unsigned(out, at, (id - pen.id) as u64) {
-        Field::Next(value_at) => put_value(out, value_at, kind, value, s, next),
-        Field::Short => Field::Short,
-    }
+    let value_at = put_unsigned(out, at, (id - pen.id) as u64)?;
+    put_value(out, value_at, kind, value, s, next)
 }

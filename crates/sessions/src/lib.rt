@@ -27,28 +27,24 @@ fn is_at(bench: Bench, session: u32, k: usize) -> bool
 pub fn place_of(bench: Bench, session: u32) -> usize
     ensures { (result ≡ place_of bench session) × (result ≤ 32) }
 {
-    let mut k: usize = 0;
-    while k < 32 {
+    for k in 0..32 {
         if is_at(bench, session, k) {
             return k;
         }
-        k += 1;
     }
-    k
+    32
 }
 
 // The lowest place that is free, or 32.
 fn free_place(bench: Bench) -> usize
     ensures { (result ≡ free_place bench) × (result ≤ 32) }
 {
-    let mut k: usize = 0;
-    while k < 32 {
+    for k in 0..32 {
         if bench.counts[k] == 0 {
             return k;
         }
-        k += 1;
     }
-    k
+    32
 }
 
 // Where a fragment of a session is counted, or 32.

@@ -7,15 +7,14 @@ use Rattle.states.specs.declared.States.{States}
 use Rattle.states.specs.declared.States.TheVariants.{Two, Nine}
 use Rattle.records.specs.declared.Record.{Record}
 use Rattle.records.specs.declared.Record.TheVariants.{Time, Value, Real}
-use Rattle.event_streams.specs.declared.Next.{Next}
-use Rattle.event_streams.specs.declared.Next.TheVariants as next
+use Rattle.event_streams.specs.Next.{Next}
+use Rattle.event_streams.specs.Next as next
 use Rattle.event_streams.specs.Stream.{next_event}
 use Rattle.step_ends.specs.declared.Names.{Names}
 use Rattle.step_ends.specs.declared.Line.{Line}
 use Rattle.step_ends.specs.declared.Line.TheVariants.{Session, Strobe, Close, Other}
 use Rattle.step_ends.specs.declared.Watch.{Watch}
-use Rattle.step_ends.specs.declared.Seen.{Seen}
-use Rattle.step_ends.specs.declared.Seen.TheVariants.{More, Step, End, Bad}
+use Rattle.step_ends.specs.Seen.{SeenFound, More, Step, End, Bad}
 pub mod Code
 pub mod Laws
 pub mod Shown
@@ -49,15 +48,15 @@ shows values w Close start n = record { begun = w.begun; time = w.time; session 
 shows values w Other start n = w
 
 -- a time opens a step, and ends the one that is open
-unfoldable pub see_time : Watch → (u j : ℕ) → Seen
+unfoldable pub see_time : Watch → (u j : ℕ) → SeenFound
 see_time w u j = cond w.begun (Step (opened w u) j) (More (opened w u) j)
 
 -- "34 .. an event of the three that isn't two-state or isn't 1 to 4 bytes long for the session, 1 byte for the others"
-unfoldable pub see_value : (values : List ℕ) → Watch → Line → States → (start n i j : ℕ) → Seen
+unfoldable pub see_value : (values : List ℕ) → Watch → Line → States → (start n i j : ℕ) → SeenFound
 see_value values w line states start n i j = cond (suits line states n) (More (shows values w line start n) j) (Bad 34 i)
 
 -- .. and a real isn't two-state
-unfoldable pub see_real : Watch → Line → (i j : ℕ) → Seen
+unfoldable pub see_real : Watch → Line → (i j : ℕ) → SeenFound
 see_real w Session i j = Bad 34 i
 see_real w Strobe i j = Bad 34 i
 see_real w Close i j = Bad 34 i
@@ -65,17 +64,17 @@ see_real w Other i j = More w j
 
 -- "a later request's refusal stands at its record", "(after 20)"
 module _ (names : Names) where
-  unfoldable pub see_event : (values : List ℕ) → Watch → Record → (i j : ℕ) → Seen
+  unfoldable pub see_event : (values : List ℕ) → Watch → Record → (i j : ℕ) → SeenFound
   see_event values w (Time u) i j = see_time w u j
   see_event values w (Value states reference start n) i j = see_value values w (line_of names reference) states start n i j
   see_event values w (Real reference bits) i j = see_real w (line_of names reference) i j
 
-  unfoldable pub see_next : (values : List ℕ) → Watch → ℕ → Next → Seen
+  unfoldable pub see_next : (values : List ℕ) → Watch → ℕ → Next → SeenFound
   see_next values w i (next.Event r j) = see_event values w r i j
   see_next values w i next.End = End
   see_next values w i (next.Bad n p) = Bad n p
 
-  unfoldable pub see : (s values : List ℕ) → Watch → ℕ → Seen
+  unfoldable pub see : (s values : List ℕ) → Watch → ℕ → SeenFound
   see s values w i = see_next values w i (next_event s (length values) w.begun i)
 
 -- the step ends of a stream, in order: what is shown then, with the step's time; the first byte of the record that ends it, and the place after that record,
@@ -90,7 +89,7 @@ unfoldable pub last_step : Bool → Watch → ℕ → Steps
 last_step true w i = step w i i (done i)
 last_step false w i = done i
 
-unfoldable pub on_seen : Watch → ℕ → Seen → (Watch → ℕ → Steps) → Steps
+unfoldable pub on_seen : Watch → ℕ → SeenFound → (Watch → ℕ → Steps) → Steps
 on_seen w i (More v j) more = more v j
 on_seen w i (Step v j) more = step w i j (more v j)
 on_seen w i End more = last_step w.begun w i

@@ -8,8 +8,9 @@ ghost use Rattle.event_streams.specs.Stream.{in_values};
 ghost use Rattle.step_ends.specs.Steps.{line_of, two_of, suits, opened, shows, see_time, see_real, see_value, see_event, see};
 ghost use Rattle.step_ends.specs.Steps.Code.{Few, Within};
 
-use event_streams::{Next, next_event};
+use event_streams::next_event;
 use records::Record;
+use refusals::{Reason, Refusal};
 use slices::{u32_of_byte, usize_of_u32};
 use states::States;
 
@@ -49,8 +50,6 @@ pub enum Seen {
     Step(Watch, usize),
     // The input's end.
     End,
-    // A refusal's number and place.
-    Bad(u64, usize),
 }
 
 fn line_of(names: Names, reference: u32) -> Line
@@ -101,10 +100,8 @@ fn value_of(values: &[u8], start: usize, count: usize) -> u32
     ensures { result ≡ big (part values.now start count) }
 {
     let mut value: u32 = 0;
-    let mut i: usize = 0;
-    while i < count {
-        value = value * 256 + u32_of_byte(values[start + i]);
-        i += 1;
+    for byte in &values[start..start + count] {
+        value = value * 256 + u32_of_byte(*byte);
     }
     value
 }
@@ -153,13 +150,13 @@ fn opened(watch: Watch, time: u64) -> Watch
 }
 
 // A time opens a step, and ends the one that is open.
-fn see_time(watch: Watch, time: u64, next: usize) -> Seen
+fn see_time(watch: Watch, time: u64, next: usize) -> Result<Seen, Refusal>
     ensures { result ≡ see_time watch time next }
 {
     if watch.begun {
-        return Seen::Step(opened(watch, time), next);
+        return Ok(Seen::Step(opened(watch, time), next));
     }
-    Seen::More(opened(watch, time), next)
+    Ok(Seen::More(opened(watch, time), next))
 }
 
 // A value: 34.
@@ -172,25 +169,25 @@ fn see_value(
     count: u32,
     at: usize,
     next: usize,
-) -> Seen
+) -> Result<Seen, Refusal>
     requires { start + count ≤ length values.now }
     ensures { result ≡ see_value values.now watch line states start count at next }
 {
     if suits(line, states, count) {
-        return Seen::More(show(values, watch, line, start, count), next);
+        return Ok(Seen::More(show(values, watch, line, start, count), next));
     }
-    Seen::Bad(34, at)
+    Err(Refusal(Reason::Bench, at))
 }
 
 // A real: 34 where it is of one of the three.
-fn see_real(watch: Watch, line: Line, at: usize, next: usize) -> Seen
+fn see_real(watch: Watch, line: Line, at: usize, next: usize) -> Result<Seen, Refusal>
     ensures { result ≡ see_real watch line at next }
 {
     match line {
-        Line::Session => Seen::Bad(34, at),
-        Line::Strobe => Seen::Bad(34, at),
-        Line::Close => Seen::Bad(34, at),
-        Line::Other => Seen::More(watch, next),
+        Line::Session => Err(Refusal(Reason::Bench, at)),
+        Line::Strobe => Err(Refusal(Reason::Bench, at)),
+        Line::Close => Err(Refusal(Reason::Bench, at)),
+        Line::Other => Ok(Seen::More(watch, next)),
     }
 }
 
@@ -201,7 +198,7 @@ fn see_event(
     event: Record,
     at: usize,
     next: usize,
-) -> Seen
+) -> Result<Seen, Refusal>
     requires { in_values (length values.now) event ≡ true }
     ensures { result ≡ see_event names values.now watch event at next }
 {
@@ -229,12 +226,12 @@ fn see_event(
 }
 
 // The record at a place of the stream, and what it brings.
-pub fn see(names: Names, s: &[u8], values: &[u8], watch: Watch, at: usize) -> Seen
+pub fn see(names: Names, s: &[u8], values: &[u8], watch: Watch, at: usize) -> Result<Seen, Refusal>
     ensures { result ≡ see names s.now values.now watch at }
 {
     match next_event(s, values.len(), watch.begun, at) {
-        Next::Event(event, next) => see_event(names, values, watch, event, at, next),
-        Next::End => Seen::End,
-        Next::Bad(number, place) => Seen::Bad(number, place),
+        Ok(Some((event, next))) => see_event(names, values, watch, event, at, next),
+        Ok(None) => Ok(Seen::End),
+        Err(refusal) => Err(refusal),
     }
 }

@@ -12,5 +12,5 @@ loop-q-smaller c = search (apply_laws, rules)
 pub loop-q-preserved : goal.loop-q-preserved
 loop-q-preserved c = search (apply_laws, rules)
 
-pub returns-in-Over : goal.returns-in-Over
-returns-in-Over c = search (apply_laws, rules)
+pub returns-in-Break : goal.returns-in-Break
+returns-in-Break c = search (apply_laws, rules)

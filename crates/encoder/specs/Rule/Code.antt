@@ -1,6 +1,6 @@
 -- What the proofs of the time rule search.
 -- Assumes nothing.
-use Rattle.std.specs.Prelude.{◌≡◌, ℕ, ◌+◌, ◌-◌, ◌≤◌, ◌<◌, Bool, true, false, not, cond, List, [], ◌++◌, ltb, leb, length}
+use Rattle.std.specs.Prelude.{◌≡◌, ℕ, ◌+◌, ◌-◌, ◌≤◌, ◌<◌, Bool, true, false, not, cond, List, [], ◌++◌, ltb, leb, length, None, Some, Ok}
 use Rattle.std.proofs.Math.Path.{refl}
 use Rattle.std.proofs.Common.{sym, ap, subst, ◌∙◌, append-nil, arith}
 use Rattle.std.proofs.Math.Nat.{add-zero}
@@ -10,16 +10,15 @@ use Rattle.slices.specs.Splice.Laws.{length_part, part_zero, part_front, part_sp
 use Rattle.states.specs.declared.States.{States}
 use Rattle.records.specs.declared.Record.{Record}
 use Rattle.records.specs.declared.Record.TheVariants.{Time, Value, Real}
-use Rattle.event_streams.specs.declared.Next as records
-use Rattle.event_streams.specs.declared.Next.TheVariants.{Event, End, Bad}
+use Rattle.event_streams.specs.Next as records
+use Rattle.event_streams.specs.Next.{Event, End, Bad}
 use Rattle.event_streams.specs.Stream.{next_event}
 use Rattle.event_streams.proofs.Stream.Laws.{past_end, found_event}
 use Rattle.encoder.specs.declared.Clock.{Clock}
 use Rattle.encoder.specs.declared.Progress.{Progress}
-use Rattle.encoder.specs.declared.Turn.{Turn}
-use Rattle.encoder.specs.declared.Turn.TheVariants.{More, Over}
-use Rattle.number_writer.specs.declared.Written.{Written}
-use Rattle.number_writer.specs.declared.Written.TheVariants.{Done, Refused}
+use Rattle.encoder.specs.Going.{Turn}
+use Rattle.std.proofs.Common.{Continue, Break}
+use Rattle.number_writer.specs.Written.{Written, Done, Refused}
 use Rattle.number_writer.specs.Ended as written
 use Rattle.number_writer.specs.Ended.{Ended, wrote, Fills}
 use Rattle.number_writer.specs.Put.{Puts}
@@ -27,7 +26,6 @@ use Rattle.filling.specs.Filling.{Filling, puts_none, filling_start, filling_use
 use Rattle.filling.specs.Filling.Steps.{Step, goes, ends, stops, DoesBy}
 use Rattle.filling.specs.Filling.Fuel.{Ahead, on_step, Stepwise, Reading, reading_start, reading_turn}
 use Rattle.slices.specs.Choice.{cond_ind}
-use Rattle.slices.specs.declared.Field.TheVariants.{Next, Short}
 use Rattle.encoder.specs.Rule.{keeps, kept, ticks, times, Ruled, ruled, refused, one, rule, time_rule}
 use Rattle.encoder.specs.Rule.Promise.{Applies}
 
@@ -118,28 +116,28 @@ step_by s (c, k) i End = ends [] i k
 step_by s (c, k) i (Bad n p) = stops n p
 
 abbrev pub going : Clock × ℕ → (read count : ℕ) → Turn
-going (c, k) j n = More (record { clock = c; read = j; kept = n; steps = k })
+going (c, k) j n = Continue (record { clock = c; read = j; kept = n; steps = k })
 
 -- what a record gives is put, or it does not fit; or the stream is over, or refused
 pub record Does (s kept : List ℕ) (p : Progress) (n : records.Next) (kept' : List ℕ) (t : Turn) : Type 0 where
-  pub does : DoesBy going Over kept p.kept (step_by s (p.clock, p.steps) p.read n) kept' t
+  pub does : DoesBy going Break kept p.kept (step_by s (p.clock, p.steps) p.read n) kept' t
 
 module _ {s kept : List ℕ} {p : Progress} {j : ℕ} (f : Fit s kept p j) (n : ℕ) (b : n ≤ j - p.read) where
   size : length (part s p.read n) ≡ n
   size = length_part s p.read n (omega (arith, f.ahead, f.inside))
 
   module _ {e : Record} (a : n ≡ cond (keeps p.clock e) (j - p.read) 0) where
-    pub takes_full : length kept - p.kept < n → Does s kept p (Event e j) kept (Over (Refused 16 j))
-    takes_full h = record { does = rw (← a) (Short, record { lies = omega (arith, size, f.used) }, refl) }
+    pub takes_full : length kept - p.kept < n → Does s kept p (Event e j) kept (Break (Refused 16 j))
+    takes_full h = record { does = rw (← a) (None, record { lies = omega (arith, size, f.used) }, refl) }
 
     pub takes_more : n ≤ length kept - p.kept → {kept' : List ℕ} → kept' ≡ splice kept p.kept (part s p.read n)
         → {c : Clock} → c ≡ ticks p.clock e → {t : ℕ} → t ≡ cond (keeps p.clock e) (times e) 0
         → Does s kept p (Event e j) kept'
-        (More (record { clock = c; read = j; kept = p.kept + n; steps = p.steps + t }))
+        (Continue (record { clock = c; read = j; kept = p.kept + n; steps = p.steps + t }))
     takes_more h w d g =
-        let l : Puts kept p.kept (part s p.read n) _ (Next (p.kept + n)) =
+        let l : Puts kept p.kept (part s p.read n) _ (Some (p.kept + n)) =
         record { lies = (w, rw size, omega (arith, f.used)) } in
-        record { does = rw (← a, ← d, ← g) (Next (p.kept + n), l, refl) }
+        record { does = rw (← a, ← d, ← g) (Some (p.kept + n), l, refl) }
 
 abbrev pub next_at : List ℕ → ℕ → Progress → records.Next
 next_at s values p = next_event s values p.clock.begun p.read
@@ -150,11 +148,11 @@ module _ (s : List ℕ) (values : ℕ) (p : Progress) (kept : List ℕ) {n : rec
   does_so e d = rw (sym u ∙ e) d
 
   pub one_end : n ≡ End → p.kept ≤ length kept
-      → Does s kept p (next_at s values p) kept (Over (Done p.read p.kept p.steps))
-  one_end e h = does_so e (record { does = (Next p.kept, puts_none kept p.kept h, refl) })
+      → Does s kept p (next_at s values p) kept (Break (Done p.read p.kept p.steps))
+  one_end e h = does_so e (record { does = (Some p.kept, puts_none kept p.kept h, refl) })
 
   pub one_bad : {number place : ℕ} → n ≡ Bad number place
-      → Does s kept p (next_at s values p) kept (Over (Refused number place))
+      → Does s kept p (next_at s values p) kept (Break (Refused number place))
   one_bad e = does_so e (record { does = refl })
 
   module _ {e : Record} {j : ℕ} (v : n ≡ Event e j) where
@@ -253,10 +251,10 @@ on_start s values kept = record { filling = filling_start kept [] refl (reading_
 module _ (s : List ℕ) (values : ℕ) (kept₀ kept : List ℕ) (e : Ended) where
   applies : (a : Written) → time_rule s values (length kept₀) ≡ ruled_of e → Fills e kept₀ kept a
       → Applies s values (length kept₀) kept a
-  applies (Done read n steps) w f =
+  applies (Ok d) w f =
       let (bs, g, x, m, h) = f.says in
       let front = sym (part_front (splice kept₀ 0 bs) (length bs)) ∙ part_splice kept₀ 0 bs (omega arith) in
-      record { says = (record { events = bs; steps = steps }, w ∙ ap ruled_of g, rw (x, m) front, m, refl) }
+      record { says = (record { events = bs; steps = d.steps }, w ∙ ap ruled_of g, rw (x, m) front, m, refl) }
   applies (Refused number place) w f = record { says = w ∙ ap ruled_of f.says }
 
 module _ {s : List ℕ} {values : ℕ} {kept₀ : List ℕ} {p : Progress} {kept : List ℕ} (o : On s values kept₀ p kept) where
@@ -264,22 +262,22 @@ module _ {s : List ℕ} {values : ℕ} {kept₀ : List ℕ} {p : Progress} {kept
   on_asks = (o.filling.left.good, filling_used o.filling)
 
   abbrev Comes : List ℕ → Turn → Type 0
-  Comes kept' (More q) = On s values kept₀ q kept' × (length s - q.read < length s - p.read)
-  Comes kept' (Over a) = Applies s values (length kept₀) kept' a
+  Comes kept' (Continue q) = On s values kept₀ q kept' × (length s - q.read < length s - p.read)
+  Comes kept' (Break a) = Applies s values (length kept₀) kept' a
 
   module _ {kept' : List ℕ} {t : Turn} (d : Does s kept p (next_at s values p) kept' t) where
     came : Comes kept' t
     came =
-        reading_turn (stepwise s values (length kept₀)) o.filling going Over (Comes kept')
+        reading_turn (stepwise s values (length kept₀)) o.filling going Break (Comes kept')
         (λ x j c f l. (record { filling = f }, l)) (applies s values kept₀ kept') t d.does
 
-    pub on_more : {q : Progress} → t ≡ More q → On s values kept₀ q kept'
+    pub on_more : {q : Progress} → t ≡ Continue q → On s values kept₀ q kept'
     on_more e = (subst (Comes kept') e came).0
 
-    pub on_less : {q : Progress} → t ≡ More q → length s - q.read < length s - p.read
+    pub on_less : {q : Progress} → t ≡ Continue q → length s - q.read < length s - p.read
     on_less e = (subst (Comes kept') e came).1
 
-    pub on_over : {r : Written} → t ≡ Over r → Applies s values (length kept₀) kept' r
+    pub on_over : {r : Written} → t ≡ Break r → Applies s values (length kept₀) kept' r
     on_over e = subst (Comes kept') e came
 
 pub ruleset keeps_laws = (keeps_later, keeps_first, keeps_value, keeps_real)

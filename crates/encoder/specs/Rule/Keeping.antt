@@ -3,7 +3,7 @@
 use Rattle.std.specs.Prelude.{ℕ, zero, suc, ◌+◌, ◌≤◌, ◌<◌, ◌≡◌, ◌≢◌, ◌⊎◌, Bool, false, cond, List, [], ◌∷◌, ◌++◌, length, get_or, leb}
 use Rattle.slices.specs.Splice.{part}
 use Rattle.records.specs.declared.Record.{Record}
-use Rattle.event_streams.specs.declared.Next.TheVariants.{Bad}
+use Rattle.event_streams.specs.Next.{Bad}
 use Rattle.event_streams.specs.Stream.{event_length, record_at, next_event}
 use Rattle.encoder.specs.declared.Clock.{Clock}
 use Rattle.encoder.specs.Rule.{keeps, ticks, times, Kept}

@@ -1,14 +1,13 @@
 -- What the time rule's code promises.
 -- Assumes nothing.
-use Rattle.std.specs.Prelude.{◌≡◌, ℕ, List, length, take}
-use Rattle.number_writer.specs.declared.Written.{Written}
-use Rattle.number_writer.specs.declared.Written.TheVariants.{Done, Refused}
+use Rattle.std.specs.Prelude.{◌≡◌, ℕ, List, length, take, Ok}
+use Rattle.number_writer.specs.Written.{Written, Done, Refused}
 use Rattle.encoder.specs.Rule.{Kept, ruled, refused, time_rule}
 
 -- an answer, and the first bytes of the room, are those of the rule
 abbrev pub Says : (s : List ℕ) (values room : ℕ) (kept : List ℕ) → Written → Type 0
-Says s values room kept (Done read n steps) =
-    (k : Kept) × (time_rule s values room ≡ ruled read k) × (take n kept ≡ k.events) × (n ≡ length k.events) × (steps ≡ k.steps)
+Says s values room kept (Ok w) =
+    (k : Kept) × (time_rule s values room ≡ ruled w.read k) × (take w.count kept ≡ k.events) × (w.count ≡ length k.events) × (w.steps ≡ k.steps)
 Says s values room kept (Refused number place) = time_rule s values room ≡ refused number place
 
 pub record Applies (s : List ℕ) (values room : ℕ) (kept : List ℕ) (a : Written) : Type 0 where

@@ -7,7 +7,7 @@ use native.Mathlib.Omega.{arith}
 use Rattle.std.proofs.lemmas.Bool.{lt-leb}
 use Rattle.std.proofs.Math.ListN.{length}
 use Rattle.number_writer.specs.Ended.{Ended, wrote, refused, Fills}
-use Rattle.number_writer.specs.declared.Written.{Written}
+use Rattle.number_writer.specs.Written.{Written}
 use Rattle.filling.specs.Filling.{Filling, filling_inside}
 use Rattle.filling.specs.Filling.Steps.{Step, goes, ends, stops, DoesBy, Takes, filling_step}
 

@@ -1,13 +1,10 @@
 -- A loop whose definition goes by steps, each of which gives bytes for the output, ends it, or refuses.
 -- Assumes nothing.
-use Rattle.std.specs.Prelude.{◌≡◌, refl, ℕ, ◌+◌, ◌≤◌, ◌<◌, List, ◌++◌, length}
+use Rattle.std.specs.Prelude.{◌≡◌, refl, ℕ, ◌+◌, ◌≤◌, ◌<◌, List, ◌++◌, length, None, Option, Some}
 use Rattle.std.proofs.Common.{sym, subst}
-use Rattle.slices.specs.declared.Field.{Field}
-use Rattle.slices.specs.declared.Field.TheVariants.{Next, Short}
 use Rattle.number_writer.specs.Ended.{Ended, wrote, refused, Fills}
 use Rattle.number_writer.specs.Put.{Puts}
-use Rattle.number_writer.specs.declared.Written.{Written}
-use Rattle.number_writer.specs.declared.Written.TheVariants.{Done, Refused}
+use Rattle.number_writer.specs.Written.{Written, Done, Refused}
 use Rattle.filling.specs.Filling.{Filling, filling_fits, filling_turn, filling_done, filling_full, filling_bad}
 
 -- bytes, and the state and the place after them; or the last bytes, how far was read and how many steps there were;
@@ -20,17 +17,17 @@ pub data Step (X : Type 0) : Type 0 where
 -- ---- what the code did
 
 -- where a turn comes to with its bytes: they were put, or they do not fit
-abbrev pub landed : {T : Type 0} → (ℕ → T) → T → Field → T
-landed put full (Next c) = put c
-landed put full Short = full
+abbrev pub landed : {T : Type 0} → (ℕ → T) → T → Option ℕ → T
+landed put full (Some c) = put c
+landed put full None = full
 
 -- turns of a type `T` that go on, from a state and a place with so many bytes put, or are over
 module _ {X T : Type 0} (more : X → (read count : ℕ) → T) (over : Written → T) where
   abbrev pub DoesBy : (out : List ℕ) (n : ℕ) → Step X → (out' : List ℕ) → T → Type 0
   DoesBy out n (goes bs x j) out' r =
-      (f : Field) × Puts out n bs out' f × (r ≡ landed (more x j) (over (Refused 16 j)) f)
+      (f : Option ℕ) × Puts out n bs out' f × (r ≡ landed (more x j) (over (Refused 16 j)) f)
   DoesBy out n (ends bs j k) out' r =
-      (f : Field) × Puts out n bs out' f × (r ≡ landed (λ c. over (Done j c k)) (over (Refused 16 j)) f)
+      (f : Option ℕ) × Puts out n bs out' f × (r ≡ landed (λ c. over (Done j c k)) (over (Refused 16 j)) f)
   DoesBy out n (stops k p) out' r = r ≡ over (Refused k p)
 
 -- ---- what the definition says
@@ -60,14 +57,14 @@ module _ {X A T : Type 0} {of : Ended → A} {whole : A} {Left : X → ℕ → L
       → DoesBy more over out n g out' r → C r
   filling_step (goes bs y j) t r (f, q, e) = subst C (sym e) (by f q)
     where
-      by : (f : Field) → Puts out n bs out' f → C (landed (more y j) (over (Refused 16 j)) f)
-      by (Next c) q =
+      by : (f : Option ℕ) → Puts out n bs out' f → C (landed (more y j) (over (Refused 16 j)) f)
+      by (Some c) q =
           let l = t.0 (filling_fits o q refl) in
           go y j c (filling_turn o q refl (o.held ++ bs) refl l.0) l.1
-      by Short q = end _ _ (t.1 (filling_full o q refl)) (filling_bad room out' 16 j)
+      by None q = end _ _ (t.1 (filling_full o q refl)) (filling_bad room out' 16 j)
   filling_step (ends bs j k) t r (f, q, e) = subst C (sym e) (by f q)
     where
-      by : (f : Field) → Puts out n bs out' f → C (landed (λ c. over (Done j c k)) (over (Refused 16 j)) f)
-      by (Next c) q = end _ _ (t.0 (filling_fits o q refl)) (filling_done o q refl j k)
-      by Short q = end _ _ (t.1 (filling_full o q refl)) (filling_bad room out' 16 j)
+      by : (f : Option ℕ) → Puts out n bs out' f → C (landed (λ c. over (Done j c k)) (over (Refused 16 j)) f)
+      by (Some c) q = end _ _ (t.0 (filling_fits o q refl)) (filling_done o q refl j k)
+      by None q = end _ _ (t.1 (filling_full o q refl)) (filling_bad room out' 16 j)
   filling_step (stops k p) t r e = subst C (sym e) (end _ _ t (filling_bad room out' k p))

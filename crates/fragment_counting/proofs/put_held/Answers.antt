@@ -9,8 +9,8 @@ loop-k-init c = search (hold_laws, rules)
 pub loop-k-preserved : goal.loop-k-preserved
 loop-k-preserved c = search (hold_laws, rules)
 
-pub returns-in-Short : goal.returns-in-Short
-returns-in-Short c = search (hold_laws, rules)
+pub returns-in-None : goal.returns-in-None
+returns-in-None c = search (hold_laws, rules)
 
 pub returns : goal.returns
 returns c = search (hold_laws, rules)

@@ -1,6 +1,6 @@
 -- What the proofs of the bench's records search: a record's bytes as they are built, and the held ones put one after the other.
 -- Assumes nothing.
-use Rattle.std.specs.Prelude.{◌≡◌, get_or, set}
+use Rattle.std.specs.Prelude.{◌≡◌, get_or, set, None, Option, Some}
 use Rattle.std.proofs.Math.Path.{refl}
 use Rattle.std.proofs.Common.{sym, ap, subst, ◌∙◌, add-zero, add-one, arith, eq-eqb, ne_eqb, length-append}
 use Prim.Native.Nat.{ℕ, zero, suc, ◌+◌, ◌-◌, ◌≤◌, ◌<◌}
@@ -9,8 +9,6 @@ use Rattle.std.proofs.Math.ListN.{length}
 use Rattle.slices.specs.Splice.{splice}
 use Rattle.slices.specs.Splice.Laws.{splice_nil, splice_splice, splice_all, length_splice, set_splice}
 use Rattle.slices.specs.Field.{field_of}
-use Rattle.slices.specs.declared.Field.{Field}
-use Rattle.slices.specs.declared.Field.TheVariants.{Next, Short}
 use Rattle.numbers.specs.Fixed.{big_bytes}
 use Rattle.numbers.specs.Fixed.Laws.{length_big_bytes}
 use Rattle.number_writer.specs.Put.{after_put, Puts, puts_one, puts_short, puts_more}
@@ -61,25 +59,25 @@ pub ruleset built_laws = (fragment_built, held_built, closed_built)
 -- ---- records put
 
 -- bytes that are a record's
-pub puts_out : (out : List ℕ) (at : ℕ) (o : Out) {bs : List ℕ} → bs ≡ out_bytes o → {out' : List ℕ} {f : Field} → f ≡ field_of (length bs) out at → out' ≡ after_put out at bs
+pub puts_out : (out : List ℕ) (at : ℕ) (o : Out) {bs : List ℕ} → bs ≡ out_bytes o → {out' : List ℕ} {f : Option ℕ} → f ≡ field_of (length bs) out at → out' ≡ after_put out at bs
     → Puts out at (bytes_of (o ∷ [])) out' f
 puts_out out at o {bs} e d g = rw (bytes_one o, ← e) (puts_one out at bs d g)
 
 -- a room stays as long as it was
-pub puts_room : {out : List ℕ} {n : ℕ} {bs out' : List ℕ} {c : ℕ} → Puts out n bs out' (Next c) → length out' ≡ length out
+pub puts_room : {out : List ℕ} {n : ℕ} {bs out' : List ℕ} {c : ℕ} → Puts out n bs out' (Some c) → length out' ≡ length out
 puts_room {out} {n} {bs} q = ap length q.lies.0 ∙ length_splice out n bs (omega (arith, q.lies.1, q.lies.2))
 
 -- none
-pub puts_none : (out : List ℕ) (at : ℕ) → at ≤ length out → Puts out at (bytes_of []) out (Next at)
+pub puts_none : (out : List ℕ) (at : ℕ) → at ≤ length out → Puts out at (bytes_of []) out (Some at)
 unfolding bytes_of
 puts_none out at h = record { lies = (splice_nil out at, sym (add-zero at), h) }
 
 module _ (b : Bench) (k : ℕ) (out : List ℕ) (at : ℕ) where
-  pub place_free : get_or b.counts k 0 ≡ 0 → at ≤ length out → Puts out at (bytes_of (held_at b k)) out (Next at)
+  pub place_free : get_or b.counts k 0 ≡ 0 → at ≤ length out → Puts out at (bytes_of (held_at b k)) out (Some at)
   unfolding held_at is_free
   place_free e h = rw (eq-eqb (get_or b.counts k 0) 0 e) (puts_none out at h)
 
-  pub place_held : (get_or b.counts k 0 ≡ 0 → ⊥) → {bs : List ℕ} → bs ≡ out_bytes (held (get_or b.sessions k 0) (get_or b.counts k 0)) → {out' : List ℕ} {f : Field} → f ≡ field_of (length bs) out at
+  pub place_held : (get_or b.counts k 0 ≡ 0 → ⊥) → {bs : List ℕ} → bs ≡ out_bytes (held (get_or b.sessions k 0) (get_or b.counts k 0)) → {out' : List ℕ} {f : Option ℕ} → f ≡ field_of (length bs) out at
       → out' ≡ after_put out at bs → Puts out at (bytes_of (held_at b k)) out' f
   unfolding held_at is_free
   place_held n e d g = rw (ne_eqb (get_or b.counts k 0) 0 n) (puts_out out at (held (get_or b.sessions k 0) (get_or b.counts k 0)) e d g)
@@ -92,7 +90,7 @@ pub record Holding (b : Bench) (out₀ : List ℕ) (at : ℕ) (out : List ℕ) (
   pub turns : k + fuel ≡ 32
   pub before : List Out
   pub says : held_of b ≡ before ++ held_from b fuel k
-  pub put : Puts out₀ at (bytes_of before) out (Next count)
+  pub put : Puts out₀ at (bytes_of before) out (Some count)
   pub long : length out ≡ length out₀
 
 pub hold_none : (b : Bench) (out : List ℕ) (at : ℕ) → at ≤ length out → Holding b out at out at 0
@@ -102,35 +100,35 @@ module _ {b : Bench} {out₀ : List ℕ} {at : ℕ} {out : List ℕ} {count k : 
   pub hold_used : count ≤ length out
   hold_used = omega (arith, c.long, c.put.lies.2)
 
-  module _ (l : k < 32) {out' : List ℕ} {f : Field} (q : Puts out count (bytes_of (held_at b k)) out' f) where
+  module _ (l : k < 32) {out' : List ℕ} {f : Option ℕ} (q : Puts out count (bytes_of (held_at b k)) out' f) where
     both : Puts out₀ at (bytes_of (c.before ++ held_at b k)) out' f
     both = rw bytes_append (puts_more c.put refl (bytes_of (held_at b k)) q)
 
-    all_put : {j : ℕ} → f ≡ Next j → Puts out₀ at (bytes_of (c.before ++ held_at b k)) out' (Next j)
+    all_put : {j : ℕ} → f ≡ Some j → Puts out₀ at (bytes_of (c.before ++ held_at b k)) out' (Some j)
     all_put e = subst (Puts out₀ at (bytes_of (c.before ++ held_at b k)) out') e both
 
-    more : (n : ℕ) → k + n ≡ 32 → held_of b ≡ c.before ++ held_from b n k → {j : ℕ} → f ≡ Next j → Holding b out₀ at out' j (k + 1)
+    more : (n : ℕ) → k + n ≡ 32 → held_of b ≡ c.before ++ held_from b n k → {j : ℕ} → f ≡ Some j → Holding b out₀ at out' j (k + 1)
     unfolding held_from
     more zero u w e = absurd (omega arith)
     more (suc n) u w e = record { fuel = n; turns = omega arith; before = c.before ++ held_at b k; says = rw (add-one k, append_assoc) w; put = all_put e; long = puts_room (all_put e) }
 
-    pub hold_more : {j : ℕ} → f ≡ Next j → Holding b out₀ at out' j (k + 1)
+    pub hold_more : {j : ℕ} → f ≡ Some j → Holding b out₀ at out' j (k + 1)
     hold_more e = more c.fuel c.turns c.says e
 
-    short : (n : ℕ) → k + n ≡ 32 → held_of b ≡ c.before ++ held_from b n k → f ≡ Short → Puts out₀ at (bytes_of (held_of b)) out' Short
+    short : (n : ℕ) → k + n ≡ 32 → held_of b ≡ c.before ++ held_from b n k → f ≡ None → Puts out₀ at (bytes_of (held_of b)) out' None
     unfolding held_from
     short zero u w e = absurd (omega arith)
     short (suc n) u w e = rw (w, ← append_assoc c.before (held_at b k) (held_from b n (suc k)), bytes_append (c.before ++ held_at b k) (held_from b n (suc k))) (puts_short both (bytes_of (held_from b n (suc k))) e)
 
-    pub hold_short : f ≡ Short → Puts out₀ at (bytes_of (held_of b)) out' Short
+    pub hold_short : f ≡ None → Puts out₀ at (bytes_of (held_of b)) out' None
     hold_short e = short c.fuel c.turns c.says e
 
-  all : (n : ℕ) → k + n ≡ 32 → held_of b ≡ c.before ++ held_from b n k → 32 ≤ k → Puts out₀ at (bytes_of (held_of b)) out (Next count)
+  all : (n : ℕ) → k + n ≡ 32 → held_of b ≡ c.before ++ held_from b n k → 32 ≤ k → Puts out₀ at (bytes_of (held_of b)) out (Some count)
   unfolding held_from
   all zero u w l = rw (w, append-nil c.before) c.put
   all (suc n) u w l = absurd (omega arith)
 
-  pub hold_all : 32 ≤ k → Puts out₀ at (bytes_of (held_of b)) out (Next count)
+  pub hold_all : 32 ≤ k → Puts out₀ at (bytes_of (held_of b)) out (Some count)
   hold_all l = all c.fuel c.turns c.says l
 
 pub ruleset hold_laws = (hold_none, hold_used, hold_more, hold_short, hold_all)

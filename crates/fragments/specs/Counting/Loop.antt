@@ -1,27 +1,25 @@
 -- All records: from here it is as from the start.
 -- Assumes nothing.
-use Rattle.std.specs.Prelude.{◌≡◌, refl, ℕ, suc, ◌+◌, ◌-◌, ◌≤◌, ◌<◌, Bool, List, [], ◌++◌, length, replicate}
+use Rattle.std.specs.Prelude.{◌≡◌, refl, ℕ, suc, ◌+◌, ◌-◌, ◌≤◌, ◌<◌, Bool, List, [], ◌++◌, length, replicate, None, Option, Some}
 use Rattle.std.proofs.Math.Path.{sym, subst}
 use Rattle.std.proofs.Common.{ap, ◌∙◌, arith}
 use Rattle.std.proofs.Math.Bool.{true, false}
 use borrow.Author.Tests.{le-leb, lt-leb}
-use Rattle.slices.specs.declared.Field.{Field}
-use Rattle.slices.specs.declared.Field.TheVariants as field
 use Rattle.number_writer.specs.Ended.{Ended, Fills}
 use Rattle.number_writer.specs.Put.{Puts}
-use Rattle.number_writer.specs.declared.Written.{Written}
+use Rattle.number_writer.specs.Written.{Written}
 use Rattle.filling.specs.Filling.{FillingBy, filling_start, filling_count, filling_used}
 use Rattle.filling.specs.Filling.{filling_stay, filling_behind, filling_turn}
 use Rattle.step_ends.specs.declared.Names.{Names}
 use Rattle.step_ends.specs.declared.Watch.{Watch}
-use Rattle.step_ends.specs.declared.Seen.{Seen}
-use Rattle.step_ends.specs.declared.Seen.TheVariants as seen
+use Rattle.step_ends.specs.Seen.{SeenFound}
+use Rattle.step_ends.specs.Seen as seen
 use Rattle.step_ends.specs.Steps.{Steps, done, see, last_step, on_seen, unseen, steps_from, step_ends}
 use Rattle.step_ends.specs.Steps.Laws.{Ahead, see_ahead, once}
 use Rattle.sessions.specs.declared.Bench.{Bench}
 use Rattle.fragments.specs.declared.Progress.{Progress}
-use Rattle.fragments.specs.declared.Going.{Going}
-use Rattle.fragments.specs.declared.Going.TheVariants.{More, Over}
+use Rattle.fragments.specs.Going.{Going}
+use Rattle.std.proofs.Common.{Continue, Break}
 use Rattle.fragments.specs.declared.Turn.{Turn}
 use Rattle.sessions.specs.Places.Laws.{Most, empty_most}
 use Rattle.fragment_records.specs.Output.{Out, bytes_of, held_of}
@@ -48,13 +46,13 @@ module _ (names : Names) (s values out₀ : List ℕ) where
     pub goes : Goes s out b p
 
   abbrev ComesBy : Progress → List ℕ → Bench → Going → Type 0
-  ComesBy p out b (More q) = On b q out × (p.read < q.read)
-  ComesBy p out b (Over a) = Fills whole out₀ out a
+  ComesBy p out b (Continue q) = On b q out × (p.read < q.read)
+  ComesBy p out b (Break a) = Fills whole out₀ out a
 
   abbrev Comes : Progress → List ℕ → Turn → Type 0
   Comes p out r = ComesBy p out r.bench r.going
 
-  over : (p : Progress) {out : List ℕ} (r : Turn) {a : Written} → r.going ≡ Over a → Fills whole out₀ out a
+  over : (p : Progress) {out : List ℕ} (r : Turn) {a : Written} → r.going ≡ Break a → Fills whole out₀ out a
       → Comes p out r
   over p {out} r e f = subst (ComesBy p out r.bench) (sym e) f
 
@@ -63,14 +61,14 @@ module _ (names : Names) (s values out₀ : List ℕ) where
   -- what is held stands behind the records so far, or doesn't fit
   module _ (b : Bench) (read k : ℕ) {n : ℕ} {out : List ℕ}
       (o : FillingBy bytes_of (λ outs. finished (length out₀) b outs read k ≡ whole) out₀ n out) (out' : List ℕ) where
-    held_by : (f : Field) → Puts out₀ 0 (bytes_of (o.held ++ held_of b)) out' f
+    held_by : (f : Option ℕ) → Puts out₀ 0 (bytes_of (o.held ++ held_of b)) out' f
         → Fills whole out₀ out' (ended_at k read f)
     unfolding finished
-    held_by (field.Next j) h =
+    held_by (Some j) h =
         let n = h.lies in
         let l = le-leb (length (bytes_of (o.held ++ held_of b))) (length out₀) (omega (arith, n.1, n.2)) in
         record { says = (bytes_of (o.held ++ held_of b), sym (rw l at o.left), n.0, omega (arith, n.1), n.2) }
-    held_by field.Short h =
+    held_by None h =
         let l = lt-leb (length (bytes_of (o.held ++ held_of b))) (length out₀) (omega (arith, h.lies)) in
         record { says = sym (rw l at o.left) }
 
@@ -100,7 +98,7 @@ module _ (names : Names) (s values out₀ : List ℕ) where
 
     -- the records so far, and new ones
     behind : {L : List Out → Type 0} (new : List Out) {out₁ : List ℕ} {c : ℕ}
-        → Puts out p.count (bytes_of new) out₁ (field.Next c) → L (outs ++ new) → FillingBy bytes_of L out₀ c out₁
+        → Puts out p.count (bytes_of new) out₁ (Some c) → L (outs ++ new) → FillingBy bytes_of L out₀ c out₁
     behind new q l = filling_turn o.filling q refl (outs ++ new) (bytes_append outs new) l
 
     last_fills : (x : Bool) → Left (last_step x p.watch p.read) → (a : Written) → LastsBy x out b p out' a
@@ -140,7 +138,7 @@ module _ (names : Names) (s values out₀ : List ℕ) where
         )
     came_step f h v j a (stops n k) l m g = over p r g (record { says = sym l })
 
-    came_by : (x : Seen) → Ahead s p.watch p.read x → (f : ℕ) → length s ≤ p.read + suc f
+    came_by : (x : SeenFound) → Ahead s p.watch p.read x → (f : ℕ) → length s ≤ p.read + suc f
         → Left (on_seen p.watch p.read x (λ v j. steps_from names s values f v j)) → TurnsBy x out b p out' r
         → Comes p out' r
     unfolding on_seen runs
@@ -192,13 +190,13 @@ module _ {names : Names} {s values out₀ : List ℕ} {b : Bench} {p : Progress}
     came_here : ComesBy names s values out₀ p out' r.bench r.going
     came_here = came names s values out₀ b p out o out' r t
 
-    pub on_more : {q : Progress} → r.going ≡ More q → On names s values out₀ r.bench q out'
+    pub on_more : {q : Progress} → r.going ≡ Continue q → On names s values out₀ r.bench q out'
     on_more e = (subst (ComesBy names s values out₀ p out' r.bench) e came_here).0
 
-    pub on_less : {q : Progress} → r.going ≡ More q → length s - q.read < length s - p.read
+    pub on_less : {q : Progress} → r.going ≡ Continue q → length s - q.read < length s - p.read
     on_less e = let c = subst (ComesBy names s values out₀ p out' r.bench) e came_here in omega (arith, c.1, c.0.goes.within)
 
-    pub on_over : {a : Written} → r.going ≡ Over a → Fills (count_fragments names s values (length out₀)) out₀ out' a
+    pub on_over : {a : Written} → r.going ≡ Break a → Fills (count_fragments names s values (length out₀)) out₀ out' a
     on_over e = subst (ComesBy names s values out₀ p out' r.bench) e came_here
 
 pub ruleset loop_laws = (on_start, on_goes, on_more, on_less, on_over)

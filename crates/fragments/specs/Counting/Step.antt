@@ -2,19 +2,17 @@
 -- Assumes nothing.
 use Rattle.std.proofs.Math.Path.{◌≡◌, refl, sym}
 use Rattle.std.proofs.Common.{subst, ◌∙◌, arith}
-use Rattle.std.specs.Prelude.{ℕ, ◌+◌, ◌≤◌, ◌<◌, Bool, false, List, [], ◌∷◌, get_or, ltb, eqb}
+use Rattle.std.specs.Prelude.{ℕ, ◌+◌, ◌≤◌, ◌<◌, Bool, false, List, [], ◌∷◌, get_or, ltb, eqb, None, Option, Some}
 use Rattle.std.proofs.Math.Bool.{true}
 use borrow.Author.Tests.{ne_eqb, lt-ltb, le-ltb, le-leb, lt-leb}
 use Rattle.std.proofs.Math.ListN.{length}
 use Rattle.slices.specs.Choice.{cond_ind}
 use Rattle.slices.specs.Field.{field_of}
-use Rattle.slices.specs.declared.Field.{Field}
-use Rattle.slices.specs.declared.Field.TheVariants as field
 use Rattle.number_writer.specs.Put.{after_put, Puts, puts_more}
 use Rattle.step_ends.specs.declared.Watch.{Watch}
 use Rattle.step_ends.specs.Steps.{rose}
 use Rattle.sessions.specs.declared.Bench.{Bench}
-use Rattle.fragments.specs.declared.Put.TheVariants.{Next, Refused}
+use Rattle.fragments.specs.Put.{Next, Refused}
 use Rattle.fragments.specs.declared.Stepped.{Stepped}
 use Rattle.sessions.specs.Places.{place_of, place_for, counted, dropped}
 use Rattle.sessions.specs.Places.Code.{Few, Countable}
@@ -38,7 +36,7 @@ pub record Answers (d : Does) (c : ℕ) (r : Stepped) : Type 0 where
 
 -- .. and its records stand in the output from `n` on
 abbrev pub ToBy : Does → (out : List ℕ) (n : ℕ) (out' : List ℕ) → Stepped → Type 0
-ToBy (went b outs) out n out' r = (c : ℕ) × (r ≡ record { bench = b; put = Next c }) × Puts out n (bytes_of outs) out' (field.Next c)
+ToBy (went b outs) out n out' r = (c : ℕ) × (r ≡ record { bench = b; put = Next c }) × Puts out n (bytes_of outs) out' (Some c)
 ToBy (stops m p) out n out' r = r.put ≡ Refused m p
 
 pub record To (d : Does) (out : List ℕ) (n : ℕ) (out' : List ℕ) (r : Stepped) : Type 0 where
@@ -63,30 +61,30 @@ pub ruleset seat_laws = (seat_counts, seat_full, seat_countable)
 -- ---- the fragment
 
 module _ {out : List ℕ} {n : ℕ} (o : Out) {out' : List ℕ} where
-  one_fits : {c : ℕ} → Puts out n (bytes_of (o ∷ [])) out' (field.Next c) → n + length (out_bytes o) ≤ length out
+  one_fits : {c : ℕ} → Puts out n (bytes_of (o ∷ [])) out' (Some c) → n + length (out_bytes o) ≤ length out
   one_fits {c} p = let l = rw (bytes_one o) at p.lies in omega (arith, l.1, l.2)
 
-  one_short : Puts out n (bytes_of (o ∷ [])) out' field.Short → length out < n + length (out_bytes o)
+  one_short : Puts out n (bytes_of (o ∷ [])) out' None → length out < n + length (out_bytes o)
   one_short p = let l = rw (bytes_one o) at p.lies in omega (arith, l)
 
 module _ (b : Bench) (w : Watch) (at next : ℕ) (out : List ℕ) (n : ℕ) {bs : List ℕ} (e : bs ≡ out_bytes (fragment w.time w.session))
-    {out' : List ℕ} {f : Field} (d : f ≡ field_of (length bs) out n) (g : out' ≡ after_put out n bs) where
+    {out' : List ℕ} {f : Option ℕ} (d : f ≡ field_of (length bs) out n) (g : out' ≡ after_put out n bs) where
   abbrev o : Out
   o = fragment w.time w.session
 
-  put : {x : Field} → f ≡ x → Puts out n (bytes_of (o ∷ [])) out' x
+  put : {x : Option ℕ} → f ≡ x → Puts out n (bytes_of (o ∷ [])) out' x
   put h = subst (Puts out n (bytes_of (o ∷ [])) out') h (puts_out out n o e d g)
 
-  seats : {c : ℕ} → Puts out n (bytes_of (o ∷ [])) out' (field.Next c) → (r : Stepped) → Answers (seated b w at) c r → To (seated b w at) out n out' r
+  seats : {c : ℕ} → Puts out n (bytes_of (o ∷ [])) out' (Some c) → (r : Stepped) → Answers (seated b w at) c r → To (seated b w at) out n out' r
   unfolding seated
   seats {c} p r =
       cond_ind (ltb (place_for b w.session) 32) _ _ (λ (d : Does). Answers d c r → To d out n out' r) (λ l a. record { comes = (c, a.answers, p) }) (λ l a. record { comes = a.answers })
 
-  pub fragment_next : {c : ℕ} → f ≡ field.Next c → {r : Stepped} → Answers (seated b w at) c r → To (counting (length out) true n b w at next) out n out' r
+  pub fragment_next : {c : ℕ} → f ≡ Some c → {r : Stepped} → Answers (seated b w at) c r → To (counting (length out) true n b w at next) out n out' r
   unfolding counting
   fragment_next h {r} a = rw (le-leb (n + length (out_bytes o)) (length out) (one_fits o (put h))) (seats (put h) r a)
 
-  pub fragment_short : f ≡ field.Short → To (counting (length out) true n b w at next) out n out' (record { bench = b; put = Refused 16 next })
+  pub fragment_short : f ≡ None → To (counting (length out) true n b w at next) out n out' (record { bench = b; put = Refused 16 next })
   unfolding counting
   fragment_short h = rw (lt-leb (n + length (out_bytes o)) (length out) (one_short o (put h))) (record { comes = refl })
 
@@ -116,16 +114,16 @@ pub ruleset rise_laws = (rise_counts, rise_none)
 -- ---- the session closed
 
 module _ (b : Bench) (w : Watch) (next : ℕ) (out : List ℕ) (n : ℕ) {k : ℕ} (v : Lives b w k) {bs : List ℕ} (e : bs ≡ out_bytes (closed w.time w.session (get_or b.counts k 0)))
-    {out' : List ℕ} {f : Field} (d : f ≡ field_of (length bs) out n) (g : out' ≡ after_put out n bs) where
-  gone : {x : Field} → f ≡ x → Puts out n (bytes_of (closed_of b w ∷ [])) out' x
+    {out' : List ℕ} {f : Option ℕ} (d : f ≡ field_of (length bs) out n) (g : out' ≡ after_put out n bs) where
+  gone : {x : Option ℕ} → f ≡ x → Puts out n (bytes_of (closed_of b w ∷ [])) out' x
   gone h = subst (Puts out n (bytes_of (closed_of b w ∷ [])) out') h (puts_out out n (closed_of b w) (rw v.is at e) d g)
 
-  pub drop_next : {c : ℕ} → f ≡ field.Next c → {b' : Bench} → b' ≡ dropped b k → To (closing (length out) true n b w next) out n out' (record { bench = b'; put = Next c })
+  pub drop_next : {c : ℕ} → f ≡ Some c → {b' : Bench} → b' ≡ dropped b k → To (closing (length out) true n b w next) out n out' (record { bench = b'; put = Next c })
   unfolding closing
   drop_next {c} h q =
       rw (le-leb (n + length (out_bytes (closed_of b w))) (length out) (one_fits (closed_of b w) (gone h))) (record { comes = (c, rw (q, v.is), gone h) })
 
-  pub drop_short : f ≡ field.Short → To (closing (length out) true n b w next) out n out' (record { bench = b; put = Refused 16 next })
+  pub drop_short : f ≡ None → To (closing (length out) true n b w next) out n out' (record { bench = b; put = Refused 16 next })
   unfolding closing
   drop_short h = rw (lt-leb (n + length (out_bytes (closed_of b w))) (length out) (one_short (closed_of b w) (gone h))) (record { comes = refl })
 
@@ -173,7 +171,7 @@ module _ (n : ℕ) (before : Watch) (b : Bench) (w : Watch) (at next : ℕ) (out
   record First (d : Does) : Type 0 where
     outs : List Out
     is : d ≡ went t.bench outs
-    put : Puts out n (bytes_of outs) out₁ (field.Next c)
+    put : Puts out n (bytes_of outs) out₁ (Some c)
 
   first : First (counting (length out) (rose before w) n b w at next)
   first = by (counting (length out) (rose before w) n b w at next) q.comes

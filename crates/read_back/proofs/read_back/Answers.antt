@@ -20,5 +20,5 @@ loop-q-smaller c = search (loop_laws, rules)
 pub loop-q-preserved : goal.loop-q-preserved
 loop-q-preserved c = search (loop_laws, rules)
 
-pub returns-in-Stops : goal.returns-in-Stops
-returns-in-Stops c = search (loop_laws, rules)
+pub returns-in-Break : goal.returns-in-Break
+returns-in-Break c = search (loop_laws, rules)

@@ -1,11 +1,12 @@
 -- One item, and all of them: from here it is as from the start.
 -- Assumes nothing.
-use Rattle.std.specs.Prelude.{◌≡◌, refl, ℕ, ◌+◌, ◌≤◌, ◌<◌, Bool, false, List, [], ◌++◌, length}
+use Rattle.std.specs.Prelude.{Err}
+use Rattle.refusals.specs.Numbers.{Numbered}
+use Rattle.std.specs.Prelude.{◌≡◌, refl, ℕ, ◌+◌, ◌≤◌, ◌<◌, Bool, false, List, [], ◌++◌, length, Some}
 use Rattle.std.proofs.Math.Path.{sym}
 use Rattle.std.proofs.Common.{ap, subst, ◌∙◌, append-nil, arith, le-leb}
 use Rattle.std.proofs.Math.Nat.{add-zero}
 use Rattle.std.proofs.lemmas.Bool.{lt-leb}
-use Rattle.slices.specs.declared.Field.TheVariants.{Next}
 use Rattle.number_writer.specs.Ended.{Ended, refused, Fills}
 use Rattle.filling.specs.Filling.{Filling, puts_none, filling_start, filling_used, filling_inside}
 use Rattle.filling.specs.Filling.Steps.{Step, Takes, filling_step}
@@ -24,10 +25,9 @@ use Rattle.sections.specs.Item.{next_item}
 use Rattle.sections.specs.Item.Code.{Stands, Stood}
 use Rattle.sections.specs.Item.Scans.{say_of, rank, said_times, ends, to_read, scan_from, Left, GoesOn, FollowsBy, Follows, follows_on, item_follows, left_all, left_some}
 use Rattle.read_back.specs.declared.Progress.{Progress}
-use Rattle.read_back.specs.declared.Turn.{Turn}
-use Rattle.read_back.specs.declared.Turn.TheVariants.{More, Stops}
-use Rattle.number_writer.specs.declared.Written.{Written}
-use Rattle.number_writer.specs.declared.Written.TheVariants.{Done, Refused}
+use Rattle.read_back.specs.Going.{Turn}
+use Rattle.std.proofs.Common.{Continue, Break}
+use Rattle.number_writer.specs.Written.{Written, Done, Refused}
 use Rattle.read_back.specs.ReadBack.{record_of, times, giving, read_back}
 use Rattle.read_back.specs.ReadBack.Turn.{said_bytes, Sounds, Counts, Does}
 use Rattle.read_back.specs.ReadBack.Turn.{going, taking, step_by, step_of, step_taking}
@@ -69,10 +69,10 @@ module _ (kinds : List ℕ) (how : How) (s out : List ℕ) (p : Progress) (x : I
   says_goes d w = rw (← e, step_taking kinds p.steps x.at x.then x.said d) w
 
   pub says_over : x.said ≡ Over → p.count ≤ length out
-      → Does out p (step_at kinds how s p) out (Stops (Done x.at p.count p.steps))
-  says_over d h = rw (← e, d) (record { does = (Next p.count, puts_none out p.count h, refl) })
+      → Does out p (step_at kinds how s p) out (Break (Done x.at p.count p.steps))
+  says_over d h = rw (← e, d) (record { does = (Some p.count, puts_none out p.count h, refl) })
 
-  pub says_bad : {n : ℕ} → x.said ≡ Bad n → Does out p (step_at kinds how s p) out (Stops (Refused n x.at))
+  pub says_bad : {n : Numbered} → x.said ≡ Bad n → Does out p (step_at kinds how s p) out (Break (Err n))
   says_bad d = rw (← e, d) (record { does = refl })
 
 -- ---- what is said is given, where it fits
@@ -120,8 +120,8 @@ module _ (kinds : List ℕ) (how : How) (s out₀ : List ℕ) where
     pub filling : Filling (Rest (p.mode, p.steps) p.read) out₀ p.count out
 
   abbrev Comes : Progress → List ℕ → Turn → Type 0
-  Comes p out (More q) = On q out × (left_over s q < left_over s p)
-  Comes p out (Stops a) = Fills whole out₀ out a
+  Comes p out (Continue q) = On q out × (left_over s q < left_over s p)
+  Comes p out (Break a) = Fills whole out₀ out a
 
   -- by an item, where what is held fits
   module _ (x : Stand) (k i : ℕ) (held : List ℕ) (w : Rest (x, k) i held) (h : length held ≤ length out₀) where
@@ -177,24 +177,24 @@ module _ {kinds : List ℕ} {how : How} {s out₀ : List ℕ} {p : Progress} {ou
         let f = o.filling in
         let x = next_item kinds how s p.mode p.read in
         let by = item_follows (with_kinds kinds) how s p.mode p.read f.left.here in
-        filling_step f going Stops (Comes kinds how s out₀ p out') (λ y j c q l. (record { filling = q }, l))
+        filling_step f going Break (Comes kinds how s out₀ p out') (λ y j c q l. (record { filling = q }, l))
         (λ e a w q. rw w q) (step_at kinds how s p)
         (takes kinds how s out₀ p.mode p.steps p.read f.held f.left (filling_inside f) x.at x.then
         x.said by) r d.does
 
-    pub on_more : {q : Progress} → r ≡ More q → On kinds how s out₀ q out'
+    pub on_more : {q : Progress} → r ≡ Continue q → On kinds how s out₀ q out'
     on_more e = (subst (Comes kinds how s out₀ p out') e came).0
 
-    pub on_less : {q : Progress} → r ≡ More q → left_over s q < left_over s p
+    pub on_less : {q : Progress} → r ≡ Continue q → left_over s q < left_over s p
     on_less e = (subst (Comes kinds how s out₀ p out') e came).1
 
-    stopped : {a : Written} → r ≡ Stops a → Fills (whole kinds how s out₀) out₀ out' a
+    stopped : {a : Written} → r ≡ Break a → Fills (whole kinds how s out₀) out₀ out' a
     stopped e = subst (Comes kinds how s out₀ p out') e came
 
 pub on_over : {kinds : List ℕ} {flag : Bool} {s out₀ : List ℕ} {p : Progress} {out : List ℕ}
     → On kinds (ordinary flag) s out₀ p out → {out' : List ℕ} {r : Turn}
     → Does out p (step_at kinds (ordinary flag) s p) out' r
-    → {a : Written} → r ≡ Stops a → Fills (read_back (with_kinds kinds) flag s (length out₀)) out₀ out' a
+    → {a : Written} → r ≡ Break a → Fills (read_back (with_kinds kinds) flag s (length out₀)) out₀ out' a
 unfolding read_back
 on_over o d e = stopped o d e
 

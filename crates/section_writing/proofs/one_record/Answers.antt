@@ -1,6 +1,7 @@
 -- Written by tools/proof-answers from proofs.map.
 use Rattle.std.proofs.Common.{rules}
 use Rattle.sections_writer.specs.Writer.Loop.{record_laws}
+use Rattle.slices.specs.Exit.{ok_at}
 use Rattle.section_writing.proofs.one_record.Goals as goal
 
 pub one_time-requires : goal.one_time-requires
@@ -12,17 +13,17 @@ signal_kind-requires c = search (record_laws, rules)
 pub one_write-requires : goal.one_write-requires
 one_write-requires c = search (record_laws, rules)
 
-pub returns-in-Time : goal.returns-in-Time
-returns-in-Time c = search (record_laws, rules)
+pub returns-in-Ok-Time : goal.returns-in-Ok-Time
+returns-in-Ok-Time c = search (record_laws, ok_at, rules)
 
-pub returns-in-Write : goal.returns-in-Write
-returns-in-Write c = search (record_laws, rules)
+pub returns-in-Ok-Write : goal.returns-in-Ok-Write
+returns-in-Ok-Write c = search (record_laws, ok_at, rules)
 
-pub returns-in-StepEnd : goal.returns-in-StepEnd
-returns-in-StepEnd c = search (record_laws, rules)
+pub returns-in-Ok-StepEnd : goal.returns-in-Ok-StepEnd
+returns-in-Ok-StepEnd c = search (record_laws, ok_at, rules)
 
-pub returns-in-End : goal.returns-in-End
-returns-in-End c = search (record_laws, rules)
+pub returns-in-Ok-End : goal.returns-in-Ok-End
+returns-in-Ok-End c = search (record_laws, ok_at, rules)
 
-pub returns-in-Bad : goal.returns-in-Bad
-returns-in-Bad c = search (record_laws, rules)
+pub returns-in-Err : goal.returns-in-Err
+returns-in-Err c = search (record_laws, rules)

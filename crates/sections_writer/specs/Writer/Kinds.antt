@@ -9,15 +9,15 @@ use mathlib.Core.List.{List, [], ◌++◌}
 use Rattle.std.proofs.Math.ListN.{length}
 use Rattle.number_writer.specs.Ended.{Ended, wrote, refused}
 use Rattle.tables.specs.Lists.{Lists}
-use Rattle.changes.specs.declared.Change.{Change}
-use Rattle.changes.specs.declared.Change.TheVariants as change
+use Rattle.changes.specs.Change.{ChangeFound}
+use Rattle.changes.specs.Change as change
 use Rattle.changes.specs.Changes.{next_change}
 use Rattle.changes.specs.Changes.Record.{of_kinds, kinds_only}
 use Rattle.sections_writer.specs.declared.Pen.{Pen}
 use Rattle.sections_writer.specs.Writer.{Given, goes, ends, stops, given, begin, one, writing, write_sections}
 
 module _ (t : Lists) (flag : Bool) (s : List ℕ) (room : ℕ) where
-  given_kinds : (p : Pen) (i : ℕ) (c : Change) → given (of_kinds t.kinds) flag s p i c ≡ given t flag s p i c
+  given_kinds : (p : Pen) (i : ℕ) (c : ChangeFound) → given (of_kinds t.kinds) flag s p i c ≡ given t flag s p i c
   unfolding given
   given_kinds p i (change.Time u j) = refl
   given_kinds p i (change.Write id v j) = refl

@@ -12,14 +12,13 @@ use Rattle.tables.specs.Lists.{Lists, nth, signals}
 use Rattle.changes.specs.Changes.{next_change}
 use Rattle.changes.specs.Changes.Record.{of_kinds, nth_is}
 use Rattle.changes.specs.Changes.Found.{Found, change_found}
-use Rattle.changes.specs.declared.Change.{Change}
-use Rattle.changes.specs.declared.Change.TheVariants as change
+use Rattle.changes.specs.Change.{ChangeFound}
+use Rattle.changes.specs.Change as change
 use Rattle.sections_writer.specs.declared.Pen.{Pen}
 use Rattle.sections_writer.specs.declared.Progress.{Progress}
-use Rattle.sections_writer.specs.declared.Turn.{Turn}
-use Rattle.sections_writer.specs.declared.Turn.TheVariants.{More, Over}
-use Rattle.number_writer.specs.declared.Written.{Written}
-use Rattle.number_writer.specs.declared.Written.TheVariants.{Refused}
+use Rattle.sections_writer.specs.Going.{Turn}
+use Rattle.std.proofs.Common.{Continue, Break}
+use Rattle.number_writer.specs.Written.{Written, Refused}
 use Rattle.sections_writer.specs.Writer.{begin, time_good, stepped, closing, one, writing, write_sections}
 use Rattle.sections_writer.specs.Writer.{Given, goes, ends, stops, given_time, given_write, given}
 use Rattle.sections_writer.specs.Writer.Turn.{EndsIn, IdOf, step_of, going, Does}
@@ -29,12 +28,12 @@ use Rattle.sections_writer.specs.Writer.Turn.{EndsIn, IdOf, step_of, going, Does
 pub kind_is : (kinds : List ℕ) (id : ℕ) → 1 ≤ id → get_or kinds (id - 1) 0 ≡ nth kinds id
 kind_is kinds id h = nth_is kinds id h
 
-module _ (kinds s : List ℕ) (p : Progress) {c : Change} (e : c ≡ next_change (of_kinds kinds) s p.pen.inside p.read) where
-  found : {x : Change} → c ≡ x → Found (of_kinds kinds) s p.read x
+module _ (kinds s : List ℕ) (p : Progress) {c : ChangeFound} (e : c ≡ next_change (of_kinds kinds) s p.pen.inside p.read) where
+  found : {x : ChangeFound} → c ≡ x → Found (of_kinds kinds) s p.read x
   found d = change_found (of_kinds kinds) s p.read p.pen.inside e d
 
   module _ (flag : Bool) {out out' : List ℕ} {r : Turn} where
-    says : {x : Change} → c ≡ x → Does out p (given (of_kinds kinds) flag s p.pen p.read x) out' r
+    says : {x : ChangeFound} → c ≡ x → Does out p (given (of_kinds kinds) flag s p.pen p.read x) out' r
         → Does out p (given (of_kinds kinds) flag s p.pen p.read (next_change (of_kinds kinds) s p.pen.inside p.read)) out' r
     says d w = rw (sym e ∙ d) w
 
@@ -59,14 +58,14 @@ module _ (kinds s : List ℕ) (p : Progress) {c : Change} (e : c ≡ next_change
     says_end d w = says d w
 
   pub says_bad : (flag : Bool) {out : List ℕ} {n q : ℕ} → c ≡ change.Bad n q
-      → Does out p (given (of_kinds kinds) flag s p.pen p.read (next_change (of_kinds kinds) s p.pen.inside p.read)) out (Over (Refused n q))
+      → Does out p (given (of_kinds kinds) flag s p.pen p.read (next_change (of_kinds kinds) s p.pen.inside p.read)) out (Break (Refused n q))
   unfolding given
   says_bad flag d = says flag d (record { does = refl })
 
   pub steps_below : {u j : ℕ} → c ≡ change.Time u j → p.pen.steps ≤ p.read → p.pen.steps < j
   steps_below d h = let f = found d in omega (arith, f.0)
 
-module _ (kinds s : List ℕ) (inside : Bool) (i : ℕ) {c : Change} (e : c ≡ next_change (of_kinds kinds) s inside i) {id v j : ℕ} (d : c ≡ change.Write id v j) where
+module _ (kinds s : List ℕ) (inside : Bool) (i : ℕ) {c : ChangeFound} (e : c ≡ next_change (of_kinds kinds) s inside i) {id v j : ℕ} (d : c ≡ change.Write id v j) where
   pub write_ends : EndsIn s j
   write_ends = let f = change_found (of_kinds kinds) s i inside e d in record { some = omega (arith, f.0); inside = f.1 }
 
@@ -90,7 +89,7 @@ module _ (t : Lists) (flag : Bool) (s : List ℕ) where
     abbrev AheadOf : Given → Type 0
     AheadOf g = Ahead Few s i (step_of p g)
 
-    given_ahead : (c : Change) → Found t s i c → AheadOf (given t flag s p i c)
+    given_ahead : (c : ChangeFound) → Found t s i c → AheadOf (given t flag s p i c)
     unfolding given given_time given_write
     given_ahead (change.Time u j) f =
         cond_ind (time_good p u) _ _ AheadOf (λ e. (f.0, f.1, omega (arith, f.0))) (λ e. tt)
@@ -127,8 +126,8 @@ pub record On (t : Lists) (flag : Bool) (s out₀ : List ℕ) (p : Progress) (ou
   pub filling : Filling (Here t flag s out₀ p) out₀ p.count out
 
 abbrev Comes : Lists → Bool → (s out₀ : List ℕ) → Progress → List ℕ → Turn → Type 0
-Comes t flag s out₀ p out (More q) = On t flag s out₀ q out × (length s - q.read < length s - p.read)
-Comes t flag s out₀ p out (Over a) = Fills (write_sections t flag s (length out₀)) out₀ out a
+Comes t flag s out₀ p out (Continue q) = On t flag s out₀ q out × (length s - q.read < length s - p.read)
+Comes t flag s out₀ p out (Break a) = Fills (write_sections t flag s (length out₀)) out₀ out a
 
 pub on_start : (t : Lists) (flag : Bool) (s out : List ℕ)
     → On t flag s out (record { pen = begin; read = 0; count = 0 }) out
@@ -142,16 +141,16 @@ module _ {t : Lists} {flag : Bool} {s out₀ : List ℕ} {p : Progress} {out : L
   module _ {out' : List ℕ} {r : Turn} (d : Does out p (given t flag s p.pen p.read (next_change t s p.pen.inside p.read)) out' r) where
     came : Comes t flag s out₀ p out' r
     came =
-        reading_turn (stepwise t flag s (length out₀)) o.filling going Over (Comes t flag s out₀ p out')
+        reading_turn (stepwise t flag s (length out₀)) o.filling going Break (Comes t flag s out₀ p out')
         (λ q j c f l. (record { filling = f }, l)) (λ e a w f. rw w f) r d.does
 
-    pub on_more : {q : Progress} → r ≡ More q → On t flag s out₀ q out'
+    pub on_more : {q : Progress} → r ≡ Continue q → On t flag s out₀ q out'
     on_more e = (subst (Comes t flag s out₀ p out') e came).0
 
-    pub on_less : {q : Progress} → r ≡ More q → length s - q.read < length s - p.read
+    pub on_less : {q : Progress} → r ≡ Continue q → length s - q.read < length s - p.read
     on_less e = (subst (Comes t flag s out₀ p out') e came).1
 
-    pub on_over : {a : Written} → r ≡ Over a → Fills (write_sections t flag s (length out₀)) out₀ out' a
+    pub on_over : {a : Written} → r ≡ Break a → Fills (write_sections t flag s (length out₀)) out₀ out' a
     on_over e = subst (Comes t flag s out₀ p out') e came
 
 abbrev pub OnKinds : (kinds : List ℕ) → Bool → (s out₀ : List ℕ) → Progress → List ℕ → Type 0

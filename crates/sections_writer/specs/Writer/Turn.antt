@@ -2,14 +2,12 @@
 -- Assumes nothing.
 use Rattle.std.proofs.Math.Path.{◌≡◌, refl}
 use Rattle.std.proofs.Common.{sym, ◌∙◌, arith}
-use Rattle.std.specs.Prelude.{ℕ, ◌-◌, ◌^◌, ◌≤◌, ◌<◌, Bool, ◌&&◌, List, [], ◌∷◌, ◌++◌, length, get_or}
+use Rattle.std.specs.Prelude.{ℕ, ◌-◌, ◌^◌, ◌≤◌, ◌<◌, Bool, ◌&&◌, List, [], ◌∷◌, ◌++◌, length, get_or, None, Option, Some}
 use Rattle.std.proofs.Math.Bool.{true, false}
 use borrow.Author.Tests.{lt-ltb, le-ltb, le-leb, lt-leb, leb-true, eq-eqb, ne_eqb}
 use Rattle.std.proofs.Math.ListN.{replicate}
 use Rattle.std.proofs.Math.Dec.{leb}
 use Rattle.slices.specs.Field.{field_of}
-use Rattle.slices.specs.declared.Field.{Field}
-use Rattle.slices.specs.declared.Field.TheVariants.{Next, Short}
 use Rattle.numbers.specs.Marks.{cyc, ecy, tai}
 use Rattle.number_writer.specs.Put.{after_put, Puts, puts_one, puts_short, puts_more}
 use Rattle.leb128.specs.Shortest.{unsigned_bytes, signed_bytes}
@@ -20,9 +18,9 @@ use Rattle.filling.specs.Filling.Steps as step
 use Rattle.filling.specs.Filling.Steps.{Step, landed, DoesBy}
 use Rattle.sections_writer.specs.declared.Pen.{Pen}
 use Rattle.sections_writer.specs.declared.Progress.{Progress}
-use Rattle.sections_writer.specs.declared.Turn.{Turn}
-use Rattle.sections_writer.specs.declared.Turn.TheVariants.{More, Over}
-use Rattle.number_writer.specs.declared.Written.TheVariants.{Done, Refused}
+use Rattle.sections_writer.specs.Going.{Turn}
+use Rattle.std.proofs.Common.{Continue, Break}
+use Rattle.number_writer.specs.Written.{Done, Refused}
 use Rattle.sections_writer.specs.Writer.{Given, goes, ends, stops, time_bytes, time_good, timed, value_bytes, write_bytes, wrote_to, stepped, cycle_end, closing, given_time, given_write}
 
 -- a record ends before a place of the input
@@ -67,7 +65,7 @@ pub ruleset good_laws = (good_first, good_falls, good_jump)
 -- ---- bytes put
 
 -- eight bytes, by a count that is 8
-module _ (out : List ℕ) (at v : ℕ) {out' : List ℕ} {f : Field} (d : f ≡ field_of 8 out at) where
+module _ (out : List ℕ) (at v : ℕ) {out' : List ℕ} {f : Option ℕ} (d : f ≡ field_of 8 out at) where
   pub puts_fixed : (flag : Bool) → out' ≡ after_put out at (fixed_bytes flag 8 v) → Puts out at (fixed_bytes flag 8 v) out' f
   puts_fixed flag e = puts_one out at (fixed_bytes flag 8 v) (rw (length_fixed_bytes flag 8 v) d) e
 
@@ -77,30 +75,30 @@ module _ (out : List ℕ) (at v : ℕ) {out' : List ℕ} {f : Field} (d : f ≡ 
   puts_real e = puts_one out at (little_bytes 8 v) (rw (length_little_bytes 8 v) d) e
 
 -- some bytes, then others
-module _ (out : List ℕ) (at : ℕ) {out₁ : List ℕ} {f : Field} where
-  after_short : (a b : List ℕ) → f ≡ field_of (length a) out at → out₁ ≡ after_put out at a → f ≡ Short → Puts out at (a ++ b) out₁ Short
+module _ (out : List ℕ) (at : ℕ) {out₁ : List ℕ} {f : Option ℕ} where
+  after_short : (a b : List ℕ) → f ≡ field_of (length a) out at → out₁ ≡ after_put out at a → f ≡ None → Puts out at (a ++ b) out₁ None
   after_short a b d e g = puts_short (puts_one out at a d e) b g
 
-  after_more : (a b : List ℕ) → f ≡ field_of (length a) out at → out₁ ≡ after_put out at a → {j : ℕ} → f ≡ Next j → {out₂ : List ℕ} {g : Field} → Puts out₁ j b out₂ g → Puts out at (a ++ b) out₂ g
+  after_more : (a b : List ℕ) → f ≡ field_of (length a) out at → out₁ ≡ after_put out at a → {j : ℕ} → f ≡ Some j → {out₂ : List ℕ} {g : Option ℕ} → Puts out₁ j b out₂ g → Puts out at (a ++ b) out₂ g
   after_more a b d e n q = puts_more (puts_one out at a d e) n b q
 
   -- the cycle's mark and its time
   module _ (flag : Bool) (u : ℕ) (d : f ≡ field_of 4 out at) (e : out₁ ≡ after_put out at cyc) where
-    pub first_short : f ≡ Short → Puts out at (cyc ++ fixed_bytes flag 8 u) out₁ Short
+    pub first_short : f ≡ None → Puts out at (cyc ++ fixed_bytes flag 8 u) out₁ None
     first_short g = after_short cyc (fixed_bytes flag 8 u) d e g
 
-    pub first_more : {j : ℕ} → f ≡ Next j → {g : Field} → g ≡ field_of 8 out₁ j → {out₂ : List ℕ} → out₂ ≡ after_put out₁ j (fixed_bytes flag 8 u) → Puts out at (cyc ++ fixed_bytes flag 8 u) out₂ g
+    pub first_more : {j : ℕ} → f ≡ Some j → {g : Option ℕ} → g ≡ field_of 8 out₁ j → {out₂ : List ℕ} → out₂ ≡ after_put out₁ j (fixed_bytes flag 8 u) → Puts out at (cyc ++ fixed_bytes flag 8 u) out₂ g
     first_more {j} n x y = after_more cyc (fixed_bytes flag 8 u) d e n (puts_fixed out₁ j u x flag y)
 
   -- the tailer
   module _ (d : f ≡ field_of 4 out at) (e : out₁ ≡ after_put out at tai) where
-    pub tailer_short : f ≡ Short → Puts out at (tai ++ replicate 8 0) out₁ Short
+    pub tailer_short : f ≡ None → Puts out at (tai ++ replicate 8 0) out₁ None
     tailer_short g = after_short tai (replicate 8 0) d e g
 
-    pub tailer_more : {j : ℕ} → f ≡ Next j → {g : Field} → g ≡ field_of 8 out₁ j → {out₂ : List ℕ} → out₂ ≡ after_put out₁ j (replicate 8 0) → Puts out at (tai ++ replicate 8 0) out₂ g
+    pub tailer_more : {j : ℕ} → f ≡ Some j → {g : Option ℕ} → g ≡ field_of 8 out₁ j → {out₂ : List ℕ} → out₂ ≡ after_put out₁ j (replicate 8 0) → Puts out at (tai ++ replicate 8 0) out₂ g
     tailer_more {j} n x y = after_more tai (replicate 8 0) d e n (puts_one out₁ j (replicate 8 0) x y)
 
-module _ (flag : Bool) (p : Pen) (u : ℕ) {out : List ℕ} {at : ℕ} {out' : List ℕ} {f : Field} where
+module _ (flag : Bool) (p : Pen) (u : ℕ) {out : List ℕ} {at : ℕ} {out' : List ℕ} {f : Option ℕ} where
   pub time_first : p.steps ≡ 0 → Puts out at (cyc ++ fixed_bytes flag 8 u) out' f → Puts out at (time_bytes flag p u) out' f
   unfolding time_bytes
   time_first e q = rw e q
@@ -115,7 +113,7 @@ pub ruleset tailer_laws = (tailer_short, tailer_more)
 
 pub ruleset time_laws = (puts_one, time_first, time_later, good_less)
 
-module _ (kind v : ℕ) (s : List ℕ) (j : ℕ) {out : List ℕ} {at : ℕ} {out' : List ℕ} {f : Field} where
+module _ (kind v : ℕ) (s : List ℕ) (j : ℕ) {out : List ℕ} {at : ℕ} {out' : List ℕ} {f : Option ℕ} where
   pub value_byte : kind ≤ 4 → f ≡ field_of 1 out at → out' ≡ after_put out at (get_or s (j - 1) 0 ∷ []) → Puts out at (value_bytes kind v s j) out' f
   unfolding value_bytes
   value_byte h d e = rw (le-leb kind 4 h) (puts_one out at (get_or s (j - 1) 0 ∷ []) d e)
@@ -131,12 +129,12 @@ module _ (kind v : ℕ) (s : List ℕ) (j : ℕ) {out : List ℕ} {at : ℕ} {ou
 
 pub ruleset value_laws = (puts_one, puts_real, value_byte, value_integer, value_real)
 
-module _ (p : Pen) (kind id v : ℕ) (s : List ℕ) (j : ℕ) {out : List ℕ} {at : ℕ} {out₁ : List ℕ} {f : Field} (q : Puts out at (unsigned_bytes (id - p.id)) out₁ f) where
-  pub write_short : f ≡ Short → Puts out at (write_bytes p kind id v s j) out₁ Short
+module _ (p : Pen) (kind id v : ℕ) (s : List ℕ) (j : ℕ) {out : List ℕ} {at : ℕ} {out₁ : List ℕ} {f : Option ℕ} (q : Puts out at (unsigned_bytes (id - p.id)) out₁ f) where
+  pub write_short : f ≡ None → Puts out at (write_bytes p kind id v s j) out₁ None
   unfolding write_bytes
   write_short e = puts_short q (value_bytes kind v s j) e
 
-  pub write_more : {k : ℕ} → f ≡ Next k → {out₂ : List ℕ} {g : Field} → Puts out₁ k (value_bytes kind v s j) out₂ g → Puts out at (write_bytes p kind id v s j) out₂ g
+  pub write_more : {k : ℕ} → f ≡ Some k → {out₂ : List ℕ} {g : Option ℕ} → Puts out₁ k (value_bytes kind v s j) out₂ g → Puts out at (write_bytes p kind id v s j) out₂ g
   unfolding write_bytes
   write_more e r = puts_more q e (value_bytes kind v s j) r
 
@@ -145,25 +143,25 @@ pub ruleset write_laws = (puts_one, write_short, write_more)
 -- ---- the closing bytes
 
 module _ (p : Pen) {out : List ℕ} {at : ℕ} where
-  pub cycle_none : p.steps ≡ 0 → at ≤ length out → Puts out at (cycle_end p) out (Next at)
+  pub cycle_none : p.steps ≡ 0 → at ≤ length out → Puts out at (cycle_end p) out (Some at)
   unfolding cycle_end
   cycle_none e h = rw e (puts_none out at h)
 
-  module _ (n : p.steps ≡ 0 → ⊥) {out₁ : List ℕ} {f : Field} (d : f ≡ field_of (length (signed_bytes 0xffff_ffff_ffff_ffff)) out at) (e : out₁ ≡ after_put out at (signed_bytes 0xffff_ffff_ffff_ffff)) where
-    pub cycle_short : f ≡ Short → Puts out at (cycle_end p) out₁ Short
+  module _ (n : p.steps ≡ 0 → ⊥) {out₁ : List ℕ} {f : Option ℕ} (d : f ≡ field_of (length (signed_bytes 0xffff_ffff_ffff_ffff)) out at) (e : out₁ ≡ after_put out at (signed_bytes 0xffff_ffff_ffff_ffff)) where
+    pub cycle_short : f ≡ None → Puts out at (cycle_end p) out₁ None
     unfolding cycle_end
     cycle_short g = rw (ne_eqb p.steps 0 n) (after_short out at (signed_bytes 0xffff_ffff_ffff_ffff) ecy d e g)
 
-    pub cycle_more : {j : ℕ} → f ≡ Next j → {g : Field} → g ≡ field_of 4 out₁ j → {out₂ : List ℕ} → out₂ ≡ after_put out₁ j ecy → Puts out at (cycle_end p) out₂ g
+    pub cycle_more : {j : ℕ} → f ≡ Some j → {g : Option ℕ} → g ≡ field_of 4 out₁ j → {out₂ : List ℕ} → out₂ ≡ after_put out₁ j ecy → Puts out at (cycle_end p) out₂ g
     unfolding cycle_end
     cycle_more {j} m x y = rw (ne_eqb p.steps 0 n) (after_more out at (signed_bytes 0xffff_ffff_ffff_ffff) ecy d e m (puts_one out₁ j ecy x y))
 
-  module _ {out₁ : List ℕ} {f : Field} (q : Puts out at (cycle_end p) out₁ f) where
-    pub closing_short : f ≡ Short → Puts out at (closing p) out₁ Short
+  module _ {out₁ : List ℕ} {f : Option ℕ} (q : Puts out at (cycle_end p) out₁ f) where
+    pub closing_short : f ≡ None → Puts out at (closing p) out₁ None
     unfolding closing
     closing_short e = puts_short q (tai ++ replicate 8 0) e
 
-    pub closing_more : {k : ℕ} → f ≡ Next k → {out₂ : List ℕ} {g : Field} → Puts out₁ k (tai ++ replicate 8 0) out₂ g → Puts out at (closing p) out₂ g
+    pub closing_more : {k : ℕ} → f ≡ Some k → {out₂ : List ℕ} {g : Option ℕ} → Puts out₁ k (tai ++ replicate 8 0) out₂ g → Puts out at (closing p) out₂ g
     unfolding closing
     closing_more e r = puts_more q e (tai ++ replicate 8 0) r
 
@@ -180,52 +178,52 @@ step_of p (ends bs j) = step.ends bs j p.steps
 step_of p (stops n q) = step.stops n q
 
 abbrev pub going : Pen → (read count : ℕ) → Turn
-going q j c = More (record { pen = q; read = j; count = c })
+going q j c = Continue (record { pen = q; read = j; count = c })
 
 -- after a record's bytes
-abbrev pub gone_to : Pen → ℕ → Field → Turn
-gone_to q j f = landed (going q j) (Over (Refused 16 j)) f
+abbrev pub gone_to : Pen → ℕ → Option ℕ → Turn
+gone_to q j f = landed (going q j) (Break (Refused 16 j)) f
 
 -- what a record gives is put, or it does not fit, or it is refused
 pub record Does (out : List ℕ) (p : Progress) (g : Given) (out' : List ℕ) (r : Turn) : Type 0 where
-  pub does : DoesBy going Over out p.count (step_of p.pen g) out' r
+  pub does : DoesBy going Break out p.count (step_of p.pen g) out' r
 
-module _ (q : Pen) (j : ℕ) {f : Field} where
-  pub gone_next : {c : ℕ} → f ≡ Next c → More (record { pen = q; read = j; count = c }) ≡ gone_to q j f
+module _ (q : Pen) (j : ℕ) {f : Option ℕ} where
+  pub gone_next : {c : ℕ} → f ≡ Some c → Continue (record { pen = q; read = j; count = c }) ≡ gone_to q j f
   gone_next e = rw e
 
-  pub gone_short : f ≡ Short → Over (Refused 16 j) ≡ gone_to q j f
+  pub gone_short : f ≡ None → Break (Refused 16 j) ≡ gone_to q j f
   gone_short e = rw e
 
 pub ruleset gone_laws = (gone_next, gone_short)
 
 module _ (out : List ℕ) (p : Progress) where
   module _ (flag : Bool) (u j : ℕ) {g : Bool} (e : g ≡ time_good p.pen u) where
-    pub does_time : g ≡ true → {q : Pen} → q ≡ timed p.pen u → {out' : List ℕ} {f : Field} → Puts out p.count (time_bytes flag p.pen u) out' f → {r : Turn} → r ≡ gone_to q j f → Does out p (given_time flag p.pen p.read u j) out' r
+    pub does_time : g ≡ true → {q : Pen} → q ≡ timed p.pen u → {out' : List ℕ} {f : Option ℕ} → Puts out p.count (time_bytes flag p.pen u) out' f → {r : Turn} → r ≡ gone_to q j f → Does out p (given_time flag p.pen p.read u j) out' r
     unfolding given_time
     does_time t d {f = f} w y = rw (sym e ∙ t) (record { does = (f, w, rw d at y) })
 
-    pub does_bad_time : g ≡ false → Does out p (given_time flag p.pen p.read u j) out (Over (Refused 23 p.read))
+    pub does_bad_time : g ≡ false → Does out p (given_time flag p.pen p.read u j) out (Break (Refused 23 p.read))
     unfolding given_time
     does_bad_time t = rw (sym e ∙ t) (record { does = refl })
 
   module _ (s : List ℕ) (kind id v j : ℕ) where
-    pub does_write : p.pen.id < id → {q : Pen} → q ≡ wrote_to p.pen id → {out' : List ℕ} {f : Field} → Puts out p.count (write_bytes p.pen kind id v s j) out' f → {r : Turn} → r ≡ gone_to q j f → Does out p (given_write s p.pen p.read kind id v j) out' r
+    pub does_write : p.pen.id < id → {q : Pen} → q ≡ wrote_to p.pen id → {out' : List ℕ} {f : Option ℕ} → Puts out p.count (write_bytes p.pen kind id v s j) out' f → {r : Turn} → r ≡ gone_to q j f → Does out p (given_write s p.pen p.read kind id v j) out' r
     unfolding given_write
     does_write h d {f = f} w y = rw (lt-ltb p.pen.id id h) (record { does = (f, w, rw d at y) })
 
-    pub does_bad_write : id ≤ p.pen.id → Does out p (given_write s p.pen p.read kind id v j) out (Over (Refused 22 p.read))
+    pub does_bad_write : id ≤ p.pen.id → Does out p (given_write s p.pen p.read kind id v j) out (Break (Refused 22 p.read))
     unfolding given_write
     does_bad_write h = rw (le-ltb p.pen.id id h) (record { does = refl })
 
-  pub does_step : (j : ℕ) {q : Pen} → q ≡ stepped p.pen → {f : Field} → f ≡ field_of 1 out p.count → {out' : List ℕ} → out' ≡ after_put out p.count (0 ∷ []) → {r : Turn} → r ≡ gone_to q j f → Does out p (goes (0 ∷ []) (stepped p.pen) j) out' r
+  pub does_step : (j : ℕ) {q : Pen} → q ≡ stepped p.pen → {f : Option ℕ} → f ≡ field_of 1 out p.count → {out' : List ℕ} → out' ≡ after_put out p.count (0 ∷ []) → {r : Turn} → r ≡ gone_to q j f → Does out p (goes (0 ∷ []) (stepped p.pen) j) out' r
   does_step j d {f} a b y = record { does = (f, puts_one out p.count (0 ∷ []) a b, rw d at y) }
 
-  module _ (j : ℕ) {out' : List ℕ} {f : Field} (w : Puts out p.count (closing p.pen) out' f) where
-    pub does_end : {c : ℕ} → f ≡ Next c → Does out p (ends (closing p.pen) j) out' (Over (Done j c p.pen.steps))
+  module _ (j : ℕ) {out' : List ℕ} {f : Option ℕ} (w : Puts out p.count (closing p.pen) out' f) where
+    pub does_end : {c : ℕ} → f ≡ Some c → Does out p (ends (closing p.pen) j) out' (Break (Done j c p.pen.steps))
     does_end e = record { does = (f, w, rw e) }
 
-    pub does_end_short : f ≡ Short → Does out p (ends (closing p.pen) j) out' (Over (Refused 16 j))
+    pub does_end_short : f ≡ None → Does out p (ends (closing p.pen) j) out' (Break (Refused 16 j))
     does_end_short e = record { does = (f, w, rw e) }
 
 pub good_known : (p : Pen) (u : ℕ) {g : Bool} → g ≡ time_good p u → g ≡ true → time_good p u ≡ true

@@ -1,4 +1,3 @@
--- Written by tools/proof-answers from proofs.map.
 use Rattle.std.proofs.Common.{rules}
 use Rattle.sessions.specs.Places.Code.{free_laws}
 use Rattle.sessions.proofs.free_place.Goals as goal

@@ -1,10 +1,5 @@
--- Written by tools/proof-answers from proofs.map.
-use Rattle.std.proofs.Common.{◌-◌, length}
 use Rattle.sessions.specs.Places.Code.{SeekingFree}
 use Rattle.sessions.proofs.free_place.Given as goal
 
 abbrev pub invariant-loop-k : goal.invariant-loop-k
 invariant-loop-k l = SeekingFree l.bench l.k
-
-abbrev pub decreases-loop-k : goal.decreases-loop-k
-decreases-loop-k l = 32 - l.k

@@ -1,4 +1,3 @@
--- Written by tools/proof-answers from proofs.map.
 use Rattle.std.proofs.Common.{rules}
 use Rattle.sessions.specs.Places.Code.{seek_laws}
 use Rattle.sessions.proofs.place_of.Goals as goal

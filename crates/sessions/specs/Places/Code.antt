@@ -3,7 +3,7 @@
 use Rattle.std.specs.Prelude.{◌≡◌, Bool, true, false, get_or, set, eqb}
 use Rattle.std.proofs.Math.Path.{refl}
 use Rattle.std.proofs.Common.{sym, ◌∙◌, add-one, arith}
-use Prim.Native.Nat.{ℕ, zero, suc, ◌+◌, ◌-◌, ◌≤◌, ◌<◌}
+use Prim.Native.Nat.{ℕ, zero, suc, ◌+◌, ◌≤◌, ◌<◌}
 use borrow.Author.Tests.{eq-eqb, ne_eqb, lt-ltb, le-ltb}
 use Rattle.sessions.specs.declared.Bench.{Bench}
 use Rattle.sessions.specs.Places.{lowest, is_free, is_at, place_of, free_place, place_for, counted, dropped}
@@ -68,8 +68,8 @@ module _ {p : ℕ → Bool} {k : ℕ} (c : Seeking p k) where
   none zero u l = refl
   none (suc f) u l = absurd (omega arith)
 
-  pub seek_all : 32 ≤ k → k ≡ lowest p 32 0
-  seek_all l = sym (none c.fuel c.turns l) ∙ c.left
+  pub seek_all : 32 ≤ k → 32 ≡ lowest p 32 0
+  seek_all l = let e : 32 ≡ k = omega (arith, c.turns) in e ∙ sym (none c.fuel c.turns l) ∙ c.left
 
   pub seek_most : k ≤ 32
   seek_most = omega (arith, c.turns)

@@ -1,27 +1,25 @@
 -- What the proofs of `step_ends` search.
 -- Assumes nothing.
-use Rattle.std.specs.Prelude.{◌≡◌, refl, ℕ, zero, suc, ◌+◌, ◌-◌, ◌*◌, ◌^◌, ◌≤◌, ◌<◌, Bool, true, false, ◌&&◌, List, [], ◌∷◌, length, get_or, leb}
-use Rattle.std.proofs.Common.{sym, subst, ◌∙◌, add-one, arith}
+use Rattle.std.specs.Prelude.{◌≡◌, refl, ℕ, zero, suc, ◌+◌, ◌-◌, ◌*◌, ◌^◌, ◌≤◌, ◌<◌, Bool, true, false, ◌&&◌, List, [], ◌∷◌, length, get_or, leb, take, drop}
+use Rattle.std.proofs.Common.{sym, subst, ap, ◌∙◌, add-one, arith, take_all, take-suc, length-take, length-drop}
 use Rattle.std.proofs.Math.Nat.{pow-suc}
 use borrow.Author.Tests.{eq-eqb, ne_eqb, le-leb, leb-true}
 use Rattle.slices.specs.Splice.{part}
-use Rattle.slices.specs.Splice.Laws.{part_snoc, part_zero}
 use Rattle.numbers.specs.Fixed.{big}
 use Rattle.numbers.specs.Fixed.Laws.{big_append}
 use Rattle.states.specs.declared.States.{States}
 use Rattle.states.specs.declared.States.TheVariants.{Two, Nine}
 use Rattle.records.specs.declared.Record.{Record}
 use Rattle.records.specs.declared.Record.TheVariants.{Time, Value, Real}
-use Rattle.event_streams.specs.declared.Next.{Next}
-use Rattle.event_streams.specs.declared.Next.TheVariants as next
+use Rattle.event_streams.specs.Next.{Next}
+use Rattle.event_streams.specs.Next as next
 use Rattle.event_streams.specs.Stream.{in_values, next_event}
 use Rattle.event_streams.proofs.Stream.Laws.{found_event}
 use Rattle.step_ends.specs.declared.Names.{Names}
 use Rattle.step_ends.specs.declared.Line.{Line}
 use Rattle.step_ends.specs.declared.Line.TheVariants.{Session, Strobe, Close, Other}
 use Rattle.step_ends.specs.declared.Watch.{Watch}
-use Rattle.step_ends.specs.declared.Seen.{Seen}
-use Rattle.step_ends.specs.declared.Seen.TheVariants.{More, Step, End, Bad}
+use Rattle.step_ends.specs.Seen.{SeenFound, More, Step, End, Bad}
 use Rattle.step_ends.specs.Steps.{line_of, two_of, suits, opened, shows, see_time, see_value, see_real, see_event, see_next, see}
 
 -- ---- which of the three
@@ -90,14 +88,14 @@ pub record Few (values : List ℕ) (start count : ℕ) : Type 0 where
   pub inside : start + count ≤ length values
   pub few : count ≤ 4
 
-pub record Spelled (values : List ℕ) (start count value i : ℕ) : Type 0 where
-  pub past : i ≤ count
-  pub is : value ≡ big (part values start i)
+-- the number of the first `i` of some bytes
+pub record Spelled (bs : List ℕ) (value i : ℕ) : Type 0 where
+  pub is : value ≡ big (take i bs)
   pub small : value < 256 ^ i
 
-pub spell_none : (values : List ℕ) (start count : ℕ) → Spelled values start count 0 0
+pub spell_none : (bs : List ℕ) → Spelled bs 0 0
 unfolding big
-spell_none values start count = record { past = omega arith; is = rw part_zero; small = omega arith }
+spell_none bs = record { is = refl; small = omega arith }
 
 power_most : (i : ℕ) → i < 4 → 256 ^ i ≤ 256 ^ 3
 power_most zero h = omega arith
@@ -106,29 +104,33 @@ power_most (suc (suc zero)) h = omega arith
 power_most (suc (suc (suc zero))) h = omega arith
 power_most (suc (suc (suc (suc i)))) h = absurd (omega arith)
 
-module _ {values : List ℕ} {start count value i : ℕ} (c : Spelled values start count value i) where
-  pub spell_inside : Few values start count → i < count → start + i < length values
-  spell_inside h l = omega arith
+module _ (values : List ℕ) (start count : ℕ) (f : Few values start count) where
+  abbrev these : List ℕ
+  these = take (start + count - start) (drop start values)
 
-  pub spell_high : Few values start count → i < count → value * 256 < 2 ^ 32
-  spell_high h l = omega (arith, c.small, power_most i (omega arith))
+  count_these : length these ≡ count
+  count_these = simp (length-take, length-drop) (omega (arith, f.inside))
 
-  pub spell_sum : Few values start count → i < count → {b : ℕ} → b ≤ 255 → value * 256 + b < 2 ^ 32
-  spell_sum h l q = omega (arith, c.small, power_most i (omega arith))
+  module _ {value i : ℕ} (c : Spelled these value i) where
+    pub spell_high : i < length these → value * 256 < 2 ^ 32
+    spell_high l = omega (arith, c.small, power_most i (omega (arith, count_these, f.few)))
 
-  pub spell_more : Few values start count → i < count → {b : ℕ} → b ≡ get_or values (start + i) 0 → b ≤ 255 → Spelled values start count (value * 256 + b) (i + 1)
-  unfolding big
-  spell_more h l {b} e q =
-      record {
-        past = omega arith;
-        is = rw (part_snoc values start i (omega arith), big_append (part values start i) (get_or values (start + i) 0 ∷ []), c.is, e) (omega arith);
-        small = rw (add-one i, pow-suc 256 i) (omega (arith, c.small));
-      }
+    pub spell_sum : i < length these → {b : ℕ} → b ≤ 255 → value * 256 + b < 2 ^ 32
+    spell_sum l q = omega (arith, c.small, power_most i (omega (arith, count_these, f.few)))
 
-  pub spell_all : count ≤ i → value ≡ big (part values start count)
-  spell_all h = let e : i ≡ count = omega (arith, c.past) in rw (← e) c.is
+    pub spell_all : length these ≤ i → value ≡ big (part values start count)
+    unfolding part
+    spell_all h = let e : start + count - start ≡ count = omega arith in c.is ∙ ap big (take_all i these h ∙ rw e)
 
-pub ruleset spell_laws = (spell_none, spell_inside, spell_high, spell_sum, spell_more, spell_all)
+pub spell_more : {bs : List ℕ} {value i : ℕ} → Spelled bs value i → i < length bs → {b : ℕ} → b ≡ get_or bs i 0 → b ≤ 255 → Spelled bs (value * 256 + b) (i + 1)
+unfolding big
+spell_more {bs} {value} {i} c h {b} e q =
+    record {
+      is = rw (add-one i, take-suc bs i 0 h, big_append (take i bs) (get_or bs i 0 ∷ []), c.is, e) (omega arith);
+      small = rw (add-one i, pow-suc 256 i) (omega (arith, c.small));
+    }
+
+pub ruleset spell_laws = (spell_none, spell_high, spell_sum, spell_more, spell_all)
 
 -- ---- what is shown
 
@@ -236,7 +238,7 @@ module _ (w : Watch) {line : Line} (i j : ℕ) where
 
 pub ruleset real_laws = (real_other, real_session, real_strobe, real_close)
 
-module _ (names : Names) (values : List ℕ) (w : Watch) {r : Record} (i j : ℕ) {x : Seen} where
+module _ (names : Names) (values : List ℕ) (w : Watch) {r : Record} (i j : ℕ) {x : SeenFound} where
   pub event_time : {u : ℕ} → r ≡ Time u → x ≡ see_time w u j → x ≡ see_event names values w r i j
   unfolding see_event
   event_time e p = rw e p
@@ -258,7 +260,7 @@ event_inside k h {start = start} {n = n} e = leb-true (start + n) k (rw e at h)
 pub ruleset event_laws = (event_time, event_value, event_real, event_inside)
 
 module _ (names : Names) (s values : List ℕ) (w : Watch) (i : ℕ) {x : Next} (e : x ≡ next_event s (length values) w.begun i) where
-  pub see_event_lem : {r : Record} {j : ℕ} → x ≡ next.Event r j → {y : Seen} → y ≡ see_event names values w r i j → y ≡ see names s values w i
+  pub see_event_lem : {r : Record} {j : ℕ} → x ≡ next.Event r j → {y : SeenFound} → y ≡ see_event names values w r i j → y ≡ see names s values w i
   unfolding see see_next
   see_event_lem d p = rw (sym e ∙ d) p
 

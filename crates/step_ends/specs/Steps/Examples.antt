@@ -1,6 +1,6 @@
 -- Streams and their step ends, as one table under one statement: what the three show at each, the rises, and each refusal.
 -- Assumes nothing.
-use Rattle.std.specs.Prelude.{◌≡◌, refl, ℕ, ◌+◌, true, List, [], ◌∷◌, ◌++◌}
+use Rattle.std.specs.Prelude.{◌≡◌, refl, ℕ, true, List, [], ◌∷◌, ◌++◌}
 use Rattle.slices.specs.Splice.{part}
 use Rattle.numbers.specs.Fixed.{big, big_bytes}
 use Rattle.event_streams.specs.Stream.{event_length, record_at, is_time, in_values, judged, next_event}

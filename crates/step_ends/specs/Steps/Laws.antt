@@ -11,19 +11,18 @@ use Rattle.std.proofs.Math.ListN.{length}
 use Rattle.slices.specs.Choice.{cond_ind}
 use Rattle.records.specs.declared.Record.{Record}
 use Rattle.records.specs.declared.Record.TheVariants.{Time, Value, Real}
-use Rattle.event_streams.specs.declared.Next.{Next}
+use Rattle.event_streams.specs.Next.{Next}
 use Rattle.event_streams.specs.Stream.{event_length, record_at, is_time, in_values, judged, next_event}
 use Rattle.event_streams.proofs.Stream.Laws.{past_end}
 use Rattle.step_ends.specs.declared.Names.{Names}
 use Rattle.step_ends.specs.declared.Line.{Line}
 use Rattle.step_ends.specs.declared.Line.TheVariants.{Session, Strobe, Close, Other}
 use Rattle.step_ends.specs.declared.Watch.{Watch}
-use Rattle.step_ends.specs.declared.Seen.{Seen}
-use Rattle.step_ends.specs.declared.Seen.TheVariants.{More, Step, End, Bad}
+use Rattle.step_ends.specs.Seen.{SeenFound, More, Step, End, Bad}
 use Rattle.step_ends.specs.Steps.{suits, line_of, see_time, see_value, see_real, see_event, see_next, see, Steps, step, done, refused, last_step, on_seen, unseen, steps_from, step_ends}
 
 -- a record was read: it ends behind its first byte, within the input, and one that ends a step finds it open; or all was; or it is refused with one of these numbers
-abbrev pub Ahead : List ℕ → Watch → ℕ → Seen → Type 0
+abbrev pub Ahead : List ℕ → Watch → ℕ → SeenFound → Type 0
 Ahead s w i (More v j) = (i < j) × (j ≤ length s)
 Ahead s w i (Step v j) = (i < j) × (j ≤ length s) × (w.begun ≡ true)
 Ahead s w i End = length s ≤ i
@@ -67,7 +66,7 @@ module _ (names : Names) (s values : List ℕ) (w : Watch) (i : ℕ) where
   pub once : (fuel : ℕ) → length s ≤ i + fuel
       → (f : ℕ) × (length s ≤ i + suc f) × (steps_from names s values fuel w i ≡ on_seen w i (see names s values w i) (λ v j. steps_from names s values f v j))
   unfolding steps_from on_seen
-  once zero h = (0, omega arith, sym (ap (λ (x : Seen). on_seen w i x (λ v j. steps_from names s values 0 v j)) (see_past (omega arith))))
+  once zero h = (0, omega arith, sym (ap (λ (x : SeenFound). on_seen w i x (λ v j. steps_from names s values 0 v j)) (see_past (omega arith))))
   once (suc f) h = (f, h, refl)
 
 -- ---- how a stream ends
@@ -89,7 +88,7 @@ module _ (names : Names) (s values : List ℕ) where
   steps_end zero w i h l = last_ends w.begun w i (omega arith) l
   steps_end (suc fuel) w i h l = by (see names s values w i) (see_ahead names s values w i) (λ v j a b. steps_end fuel v j (omega arith) b)
     where
-      by : (x : Seen) → Ahead s w i x → ((v : Watch) (j : ℕ) → i < j → j ≤ length s → Ends s (steps_from names s values fuel v j)) → Ends s (on_seen w i x (λ v j. steps_from names s values fuel v j))
+      by : (x : SeenFound) → Ahead s w i x → ((v : Watch) (j : ℕ) → i < j → j ≤ length s → Ends s (steps_from names s values fuel v j)) → Ends s (on_seen w i x (λ v j. steps_from names s values fuel v j))
       by (More v j) a rest = rest v j a.0 a.1
       by (Step v j) a rest = rest v j a.0 a.1
       by End a rest = last_ends w.begun w i a l

@@ -17,16 +17,15 @@ use Rattle.states.specs.declared.States.{States}
 use Rattle.states.specs.declared.States.TheVariants.{Two, Nine}
 use Rattle.records.specs.declared.Record.{Record}
 use Rattle.records.specs.declared.Record.TheVariants.{Time, Value, Real}
-use Rattle.event_streams.specs.declared.Next.{Next}
-use Rattle.event_streams.specs.declared.Next.TheVariants as next
+use Rattle.event_streams.specs.Next.{Next}
+use Rattle.event_streams.specs.Next as next
 use Rattle.event_streams.specs.Stream.{record_at, next_event}
 use Rattle.event_streams.proofs.Stream.Laws.{Found, found}
 use Rattle.step_ends.specs.declared.Names.{Names}
 use Rattle.step_ends.specs.declared.Line.{Line}
 use Rattle.step_ends.specs.declared.Line.TheVariants.{Session, Strobe, Close, Other}
 use Rattle.step_ends.specs.declared.Watch.{Watch}
-use Rattle.step_ends.specs.declared.Seen.{Seen}
-use Rattle.step_ends.specs.declared.Seen.TheVariants.{More, Step, End, Bad}
+use Rattle.step_ends.specs.Seen.{SeenFound, More, Step, End, Bad}
 use Rattle.step_ends.specs.Steps.{line_of, two_of, suits, shows, see_time, see_value, see_real, see_event, see_next, see, Steps, step, done, refused, last_step, on_seen, unseen, steps_from, step_ends, rose, rises_from, rises, count}
 use Rattle.step_ends.specs.Steps.Laws.{Ahead, see_ahead}
 
@@ -61,7 +60,7 @@ unfolding record_at
 timely s b i = cond_ind (eqb (get_or s i 0) 1) _ _ Timely (λ e. few s b (i + 1) 8 8 (omega arith)) (λ e. cond_ind (eqb (get_or s i 0) 4) _ _ Timely (λ f. tt) (λ f. tt))
 
 -- what is shown after a record
-abbrev Shows : Seen → Type 0
+abbrev Shows : SeenFound → Type 0
 Shows (More v j) = Narrow v
 Shows (Step v j) = Narrow v
 Shows End = Unit {0}
@@ -114,7 +113,7 @@ module _ (names : Names) (s values : List ℕ) (b : Bytes s) (c : Bytes values) 
   shown_from zero w i h = last_shown w.begun w i h
   shown_from (suc fuel) w i h = by (see names s values w i) (see_shows w h i) (λ v j q. shown_from fuel v j q)
     where
-      by : (x : Seen) → Shows x → ((v : Watch) (j : ℕ) → Narrow v → Shown (steps_from names s values fuel v j)) → Shown (on_seen w i x (λ v j. steps_from names s values fuel v j))
+      by : (x : SeenFound) → Shows x → ((v : Watch) (j : ℕ) → Narrow v → Shown (steps_from names s values fuel v j)) → Shown (on_seen w i x (λ v j. steps_from names s values fuel v j))
       by (More v j) q rest = rest v j q
       by (Step v j) q rest = (h, rest v j q)
       by End q rest = last_shown w.begun w i h
@@ -137,7 +136,7 @@ module _ (names : Names) (s values : List ℕ) where
   count_from zero w i l = omega (arith, last_count w.begun w i)
   count_from (suc fuel) w i l = by (see names s values w i) (see_ahead names s values w i) (λ v j m. count_from fuel v j m)
     where
-      by : (x : Seen) → Ahead s w i x → ((v : Watch) (j : ℕ) → j ≤ length s → count (steps_from names s values fuel v j) + j ≤ length s + 1)
+      by : (x : SeenFound) → Ahead s w i x → ((v : Watch) (j : ℕ) → j ≤ length s → count (steps_from names s values fuel v j) + j ≤ length s + 1)
           → count (on_seen w i x (λ v j. steps_from names s values fuel v j)) + i ≤ length s + 1
       by (More v j) a rest = omega (arith, rest v j a.1, a.0)
       by (Step v j) a rest = omega (arith, rest v j a.1, a.0)

@@ -11,7 +11,7 @@ use Rattle.std.proofs.Math.ListN.{length, length-append}
 use Rattle.slices.specs.Choice.{cond_ind}
 use Rattle.slices.specs.Splice.{part}
 use Rattle.slices.specs.Splice.Laws.{length_part}
-use Rattle.event_streams.specs.declared.Next.TheVariants.{Event}
+use Rattle.event_streams.specs.Next.{Event}
 use Rattle.event_streams.specs.Stream.{event_length, record_at, next_event}
 use Rattle.encoder.specs.declared.Clock.{Clock}
 use Rattle.encoder.specs.Rule.{keeps, ticks, times, Kept, refused, one, rule, time_rule}
