@@ -1,8 +1,7 @@
 -- What the page of a call with one output says of its answer, from the input alone: nothing is left free.
 -- Assumes nothing.
 use Rattle.std.specs.Prelude.{ℕ, ◌≤◌, ◌≡◌, ◌≢◌, ◌⊎◌, List, length, take}
-use Rattle.tables.specs.declared.Check.{Check}
-use Rattle.tables.specs.declared.Check.TheVariants.{Passed, Refused}
+use Rattle.tables.specs.Check.{Check, Passed, Refused}
 use Rattle.answers.specs.Outcome.{LeftKept}
 use Rattle.courses.specs.Course.{Course, bytes_of, Ends, Overflows}
 pub mod Proofs

@@ -3,7 +3,7 @@
 use Rattle.std.specs.Prelude.{ℕ, ◌≡◌, Bool, List, length}
 use Rattle.tables.specs.Lists.{Lists}
 use Rattle.tables.specs.Checks.{unless, and_then}
-use Rattle.tables.specs.declared.Check.{Check}
+use Rattle.tables.specs.Check.{Check}
 use Rattle.rules.specs.Scan as scan
 use Rattle.checks.specs.Checked.{checks_without_room}
 use Rattle.values.specs.Value.{ordinary}

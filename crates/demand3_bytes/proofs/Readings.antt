@@ -7,8 +7,7 @@ use mathlib.Core.List.{List, [], ◌++◌, append-nil}
 use Rattle.std.proofs.Math.ListN.{length, length-take}
 use Rattle.states.specs.Kind.{bits}
 use Rattle.tables.specs.Lists.{Lists}
-use Rattle.tables.specs.declared.Check.{Check}
-use Rattle.tables.specs.declared.Check.TheVariants.{Passed, Refused}
+use Rattle.tables.specs.Check.{Check, Passed, Refused}
 use Rattle.tables.specs.Good.Laws.{limited, good}
 use Rattle.values.specs.declared.How.{How}
 use Rattle.rules.specs.Vector.{acts_early}

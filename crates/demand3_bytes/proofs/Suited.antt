@@ -15,19 +15,18 @@ use Rattle.numbers.specs.declared.marks.Section.{Section}
 use Rattle.numbers.specs.declared.marks.Section.TheVariants.{Snapshot, Cycle, Directory, Tailer, Unknown}
 use Rattle.tables.specs.Lists.{Lists, nth, signals}
 use Rattle.values.specs.declared.How.{How}
-use Rattle.values.specs.declared.Read.{Read}
-use Rattle.values.specs.declared.Read.TheVariants.{Value, Bad}
+use Rattle.values.specs.Read.{Read, Value, Bad}
 use Rattle.values.specs.Value.{on_read, unsigned, value, Suits}
 use Rattle.values.specs.Value.Laws.{value_suits}
 use Rattle.rules.specs.Gather.{time, write, step_end}
 use Rattle.rules.specs.Scan.{Scan, say, done, fault, and_then}
-use Rattle.section_scan.specs.declared.NextId.{NextId}
-use Rattle.section_scan.specs.declared.NextId.TheVariants as ids
-use Rattle.section_scan.specs.declared.NextTime.{NextTime}
-use Rattle.section_scan.specs.declared.NextTime.TheVariants as times
+use Rattle.section_scan.specs.FoundId.{FoundId}
+use Rattle.section_scan.specs.FoundId as ids
+use Rattle.section_scan.specs.FoundTime.{FoundTime}
+use Rattle.section_scan.specs.FoundTime as times
 use Rattle.section_scan.specs.Sections.{field, end_mark, each_value, next_id, one_change, change_list, next_time, snapshot, one_step, steps, cycle, entries, directory, one_section, sections, scan_sections}
-use Rattle.changes.specs.declared.Change.{Change}
-use Rattle.changes.specs.declared.Change.TheVariants as change
+use Rattle.changes.specs.Change.{ChangeFound}
+use Rattle.changes.specs.Change as change
 use Rattle.changes.specs.Changes.{next_change, one_record, changes, scan_changes}
 use Rattle.changes.specs.Changes.Found.{Found, change_found}
 
@@ -74,7 +73,7 @@ module _ (t : Lists) where
     each_value_lem how (suc count) id i a b =
         on_value how id i _ (λ v j u. ((a, omega arith, u), each_value_lem how count (suc id) j (omega arith) (omega arith)))
 
-    IdFound : NextId → Type 0
+    IdFound : FoundId → Type 0
     IdFound (ids.Id id j) = (1 ≤ id) × (id ≤ signals t)
     IdFound (ids.End j) = Unit {0}
     IdFound (ids.Bad n p) = Unit {0}
@@ -93,7 +92,7 @@ module _ (t : Lists) where
             (λ l. (omega (arith, eqb-false d 0 e), leb-true _ _ l)) (λ l. tt))
         go (Bad n p) = tt
 
-    one_change_lem : (how : How) (x : NextId) (more : ℕ → ℕ → Scan) → IdFound x → ((id j : ℕ) → Suited (more id j))
+    one_change_lem : (how : How) (x : FoundId) (more : ℕ → ℕ → Scan) → IdFound x → ((id j : ℕ) → Suited (more id j))
         → Suited (one_change t how s x more)
     unfolding one_change IdFound Suited
     one_change_lem how (ids.Id id j) more o f = on_value how id j _ (λ v k u. ((o.0, o.1, u), f id k))
@@ -111,7 +110,7 @@ module _ (t : Lists) where
       abbrev flag : Bool
       flag = how.big_endian
 
-      one_step_lem : (x : NextTime) (more : ℕ → ℕ → Scan) → ((u j : ℕ) → Suited (more u j))
+      one_step_lem : (x : FoundTime) (more : ℕ → ℕ → Scan) → ((u j : ℕ) → Suited (more u j))
           → Suited (one_step t how s x more)
       unfolding one_step Suited
       one_step_lem (times.Time u j) more f = f u j
@@ -173,7 +172,7 @@ module _ (t : Lists) where
 
     -- ---- change records
 
-    one_record_lem : (c : Change) (i : ℕ) (more : Bool → ℕ → Scan) → Found t s i c
+    one_record_lem : (c : ChangeFound) (i : ℕ) (more : Bool → ℕ → Scan) → Found t s i c
         → ((b : Bool) (j : ℕ) → Suited (more b j)) → Suited (one_record t s c i more)
     unfolding one_record Suited
     one_record_lem (change.Time u j) i more o f = f true j

@@ -3,8 +3,7 @@
 use Rattle.std.specs.Prelude.{ℕ, ◌*◌, Bool, List, map, length, replicate, leb}
 use Rattle.tables.specs.Lists.{Lists, lists, vectors}
 use Rattle.tables.specs.Checks.{unless, and_then, within_limit, check1, check2}
-use Rattle.tables.specs.declared.Check.{Check}
-use Rattle.tables.specs.declared.Check.TheVariants.{Passed, Refused}
+use Rattle.tables.specs.Check.{Check, Passed, Refused}
 use Rattle.values.specs.Value.{ordinary}
 use Rattle.doorquill.specs.declared.Vector.{Vector}
 use Rattle.answers.specs.Outcome.{refused, Left, Lent, leaves}

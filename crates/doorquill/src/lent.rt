@@ -11,6 +11,7 @@ use crate::{Vector, doorquill_read_sections};
 use answers::Answer;
 use flat_runs::{clear_all, greatest_ids, least_ids, references};
 use reading_ends::refuse;
+use refusals::{Reason, Refusal};
 use tables::{Check, check_limits, unless, within_limit};
 
 // How many of `v` records are made flat: none where there are too many, or where `flat` has no room for them.
@@ -67,13 +68,13 @@ fn check_flat(kinds: usize, refs: usize, vecs: usize, v: usize, flat: usize) -> 
     if within_limit(flat) {
         if v <= 16383 {
             if (refs == kinds) & (vecs == kinds) & (kinds <= 65535) {
-                return unless(4 * v <= flat, 6);
+                return unless(4 * v <= flat, Refusal(Reason::RoomShort, 0));
             }
-            return Check::Refused(2, 0);
+            return Err(Refusal(Reason::Lists, 0));
         }
-        return Check::Refused(2, 0);
+        return Err(Refusal(Reason::Lists, 0));
     }
-    Check::Refused(1, 0)
+    Err(Refusal(Reason::BufferOverLimit, 0))
 }
 
 // The checks that come before any number is read.
@@ -92,8 +93,8 @@ fn check_lent(
     ensures { result ≡ checks_flat kinds refs vecs v flat input events values room list }
 {
     match check_limits(input, events, values, room, list) {
-        Check::Passed => check_flat(kinds, refs, vecs, v, flat),
-        Check::Refused(number, place) => Check::Refused(number, place),
+        Ok(()) => check_flat(kinds, refs, vecs, v, flat),
+        Err(refusal) => Err(refusal),
     }
 }
 
@@ -262,11 +263,17 @@ pub(crate) fn read_flat<'a>(
         room.len(),
         list.len(),
     ) {
-        Check::Passed => read_passed(
+        Ok(()) => read_passed(
             kinds, refs, vecs, v, flat, big_endian, input, events, values, room, list,
         ),
-        Check::Refused(number, place) => refuse_lent(
-            flat, events, values, room, list, number, place,
+        Err(refusal) => refuse_lent(
+            flat,
+            events,
+            values,
+            room,
+            list,
+            refusal.number(),
+            refusal.place() as u64,
         ),
     }
 }

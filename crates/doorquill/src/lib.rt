@@ -20,7 +20,7 @@ use lent::{read_flat, room_for, unpack};
 use passed::sections_passed;
 use reading_ends::refuse;
 use section_writing::write_sections;
-use tables::Check;
+use tables::Tables;
 use values::How;
 
 // A vector's record, as a host lends it.
@@ -54,7 +54,7 @@ pub fn doorquill_read_sections<'a>(
         left result events values room list
         ≡ read_sections t (manner big_endian reals_by_flag) input.now (lent events values room list) }
 {
-    match checks(
+    let tables = Tables {
         kinds,
         refs,
         vecs,
@@ -62,13 +62,16 @@ pub fn doorquill_read_sections<'a>(
         maxs,
         states,
         vec_refs,
+    };
+    match checks(
+        &tables,
         input.len(),
         events.len(),
         values.len(),
         room.len(),
         list.len(),
     ) {
-        Check::Passed => sections_passed(
+        Ok(()) => sections_passed(
             [kinds, states],
             [refs, vecs, mins, maxs, vec_refs],
             How {
@@ -81,7 +84,14 @@ pub fn doorquill_read_sections<'a>(
             room,
             list,
         ),
-        Check::Refused(number, place) => refuse(events, values, room, list, number, place),
+        Err(refusal) => refuse(
+            events,
+            values,
+            room,
+            list,
+            refusal.number(),
+            refusal.place() as u64,
+        ),
     }
 }
 
@@ -148,7 +158,7 @@ pub fn doorquill_write_sections(
     ensures { let t = tables kinds refs vecs mins maxs states vec_refs in
         left_in result out ≡ write_sections t big_endian changes.now (length out.old) }
 {
-    match checks_without_room(
+    let tables = Tables {
         kinds,
         refs,
         vecs,
@@ -156,14 +166,13 @@ pub fn doorquill_write_sections(
         maxs,
         states,
         vec_refs,
-        changes.len(),
-        out.len(),
-    ) {
+    };
+    match checks_without_room(&tables, changes.len(), out.len()) {
         // Of the tables the kinds alone are asked.
-        Check::Passed => {
+        Ok(()) => {
             let w = write_sections(kinds, big_endian, changes, out);
             end_filled(out, w)
         }
-        Check::Refused(number, place) => refuse_kept(out, number, place),
+        Err(refusal) => refuse_kept(out, refusal.number(), refusal.place() as u64),
     }
 }

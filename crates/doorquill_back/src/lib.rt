@@ -9,7 +9,7 @@ use answers::Answer;
 use answers::kept::{end_filled, refuse_kept};
 use checks::checks_without_room;
 use read_back::read_back;
-use tables::Check;
+use tables::Tables;
 
 pub fn doorquill_read_back(
     kinds: &[u8],
@@ -26,7 +26,7 @@ pub fn doorquill_read_back(
     ensures { let t = tables kinds refs vecs mins maxs states vec_refs in
         left_in result out ≡ read_back t big_endian input.now (length out.old) }
 {
-    match checks_without_room(
+    let tables = Tables {
         kinds,
         refs,
         vecs,
@@ -34,13 +34,12 @@ pub fn doorquill_read_back(
         maxs,
         states,
         vec_refs,
-        input.len(),
-        out.len(),
-    ) {
-        Check::Passed => {
+    };
+    match checks_without_room(&tables, input.len(), out.len()) {
+        Ok(()) => {
             let w = read_back(kinds, big_endian, input, out);
             end_filled(out, w)
         }
-        Check::Refused(number, place) => refuse_kept(out, number, place),
+        Err(refusal) => refuse_kept(out, refusal.number(), refusal.place() as u64),
     }
 }

@@ -11,7 +11,7 @@ use answers::Answer;
 use checks::checks;
 use passed::changes_passed;
 use reading_ends::refuse;
-use tables::Check;
+use tables::Tables;
 
 pub fn doorquill_read_changes<'a>(
     kinds: &'a [u8],
@@ -30,7 +30,7 @@ pub fn doorquill_read_changes<'a>(
     ensures { let t = tables kinds refs vecs mins maxs states vec_refs in
         left result events values room list ≡ read_changes t input.now (lent events values room list) }
 {
-    match checks(
+    let tables = Tables {
         kinds,
         refs,
         vecs,
@@ -38,13 +38,16 @@ pub fn doorquill_read_changes<'a>(
         maxs,
         states,
         vec_refs,
+    };
+    match checks(
+        &tables,
         input.len(),
         events.len(),
         values.len(),
         room.len(),
         list.len(),
     ) {
-        Check::Passed => changes_passed(
+        Ok(()) => changes_passed(
             [kinds, states],
             [refs, vecs, mins, maxs, vec_refs],
             input,
@@ -53,6 +56,13 @@ pub fn doorquill_read_changes<'a>(
             room,
             list,
         ),
-        Check::Refused(number, place) => refuse(events, values, room, list, number, place),
+        Err(refusal) => refuse(
+            events,
+            values,
+            room,
+            list,
+            refusal.number(),
+            refusal.place() as u64,
+        ),
     }
 }

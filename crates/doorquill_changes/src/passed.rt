@@ -13,6 +13,7 @@ use gather::{Gathered, Part};
 use item_turns::{Bytes, KINDS, MAXS, MINS, Numbers, REFS, STATES, VEC_REFS, VECS};
 use reading_ends::{finish, start};
 use room_needs::total_bytes;
+use tables::Tables;
 
 // The acts of all change records.
 fn changes_part<'a>(
@@ -70,14 +71,17 @@ pub(crate) fn changes_passed<'a>(
         left result events values room list
         ≡ leaves (lent events values room list) (ran t events values (scan_changes t input.now)) }
 {
-    let kinds = b[KINDS];
-    let states = b[STATES];
-    let refs = n[REFS];
-    let vecs = n[VECS];
     let mins = n[MINS];
-    let maxs = n[MAXS];
-    let vec_refs = n[VEC_REFS];
-    let need = total_bytes(kinds, refs, vecs, mins, maxs, states, vec_refs);
+    let tables = Tables {
+        kinds: b[KINDS],
+        refs: n[REFS],
+        vecs: n[VECS],
+        mins,
+        maxs: n[MAXS],
+        states: b[STATES],
+        vec_refs: n[VEC_REFS],
+    };
+    let need = total_bytes(&tables);
     let part = changes_part(b, n, input, events, values, room, list, need);
     finish(events, values, room, list, need, mins.len(), part)
 }

@@ -16,8 +16,7 @@ use Rattle.tables.specs.Checks.{unless, and_then, within_limit, check1, check6, 
 use Rattle.tables.specs.Checks.Laws.{then_passed}
 use Rattle.tables.specs.Good.{Sized, Ranged, Named, Good}
 use Rattle.tables.specs.Good.Laws.{limited, good}
-use Rattle.tables.specs.declared.Check.{Check}
-use Rattle.tables.specs.declared.Check.TheVariants.{Passed, Refused}
+use Rattle.tables.specs.Check.{Check, Passed, Refused}
 use Rattle.values.specs.declared.How.{How}
 use Rattle.rules.specs.Gather.{begin}
 use Rattle.event_rooms.specs.Out.{empty}

@@ -9,7 +9,7 @@ use Rattle.std.proofs.Common.{◌∙◌, arith}
 use Rattle.std.proofs.Math.Option.{some}
 use mathlib.Core.List.{List, [], Sublistᴰ}
 use Rattle.tables.specs.Lists.{Lists}
-use Rattle.tables.specs.declared.Check.TheVariants.{Passed, Refused}
+use Rattle.tables.specs.Check.{Passed, Refused}
 use Rattle.values.specs.declared.How.{How}
 use Rattle.rules.specs.Vector.{acts_early}
 use Rattle.rules.specs.Gather.{Good, begin}

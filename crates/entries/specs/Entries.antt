@@ -3,8 +3,7 @@
 use Rattle.std.specs.Prelude.{ℕ, cond, ◌&&◌, List, [], length}
 use Rattle.tables.specs.Lists.{Lists}
 use Rattle.tables.specs.Checks.{checks, within_limit}
-use Rattle.tables.specs.declared.Check.{Check}
-use Rattle.tables.specs.declared.Check.TheVariants.{Passed, Refused}
+use Rattle.tables.specs.Check.{Check, Passed, Refused}
 use Rattle.values.specs.declared.How.{How}
 use Rattle.rules.specs.Scan.{Scan}
 use Rattle.gather.specs.Run.{Went, went, out, run_all}

@@ -5,7 +5,7 @@ use Rattle.std.specs.Borrow.{Bor, MutBor}
 use denote.Triple.Both.{Both}
 use Rattle.tables.specs.Lists.{Lists, lists}
 use Rattle.tables.specs.Checks.{checks}
-use Rattle.tables.specs.declared.Check.TheVariants.{Passed}
+use Rattle.tables.specs.Check.{Passed}
 use Rattle.rules.specs.Scan.{Scan}
 use Rattle.gather.specs.Run.{run_all}
 use Rattle.gather.specs.Begin.{rooms_of}

@@ -1,9 +1,8 @@
 -- What the time rule's entry leaves, and what its proof searches.
 -- Assumes nothing.
-use Rattle.std.specs.Prelude.{◌≡◌, ℕ, Bool, true, false, ◌&&◌, List, length, take}
+use Rattle.std.specs.Prelude.{◌≡◌, ℕ, Bool, true, false, ◌&&◌, List, length, take, Ok}
 use Rattle.std.proofs.Common.{sym, ap, ◌∙◌, arith, length-take}
-use Rattle.number_writer.specs.declared.Written.{Written}
-use Rattle.number_writer.specs.declared.Written.TheVariants.{Done, Refused}
+use Rattle.number_writer.specs.Written.{Written, Done, Refused}
 use Rattle.tables.specs.Checks.{within_limit}
 use Rattle.encoder.specs.Rule.{time_rule}
 use Rattle.encoder.specs.Rule.Promise.{Says, Applies}
@@ -16,7 +15,7 @@ module _ {s : List ℕ} {values room : ℕ} {kept : List ℕ} where
   applied_within {a} h = record { reported = go a h.says }
     where
       go : (a : Written) → Says s values room kept a → Reported kept a
-      go (Done read n steps) (k, e, b, c, d) = let f : length (take n kept) ≡ n = ap length b ∙ sym c in omega (arith, length-take n kept)
+      go (Ok w) (k, e, b, c, d) = let f : length (take w.count kept) ≡ w.count = ap length b ∙ sym c in omega (arith, length-take w.count kept)
       go (Refused number place) e = tt
 
   applied_is : {a : Written} → Applies s values room kept a → filled_at kept a ≡ ruled (time_rule s values room)
@@ -24,7 +23,7 @@ module _ {s : List ℕ} {values room : ℕ} {kept : List ℕ} where
   applied_is {a} h = go a h.says
     where
       go : (a : Written) → Says s values room kept a → filled_at kept a ≡ ruled (time_rule s values room)
-      go (Done read n steps) (k, e, b, c, d) = rw (e, b, d)
+      go (Ok w) (k, e, b, c, d) = rw (e, b, d)
       go (Refused number place) e = rw e
 
   pub rule_applied : {a : Written} → Applies s values room kept a → {m : Bool} → m ≡ (within_limit (length s) && within_limit values && within_limit room) → m ≡ true

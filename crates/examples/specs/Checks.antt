@@ -5,8 +5,7 @@ use Rattle.tables.specs.Lists.{Lists, nth, signals, vectors}
 use Rattle.tables.specs.Layout.{layout_of, start}
 use Rattle.states.specs.Kind.{bytes_required}
 use Rattle.tables.specs.Checks.{unless, lowest, and_then, within_limit, equal_lengths, good_vector, holds, suits, good_number, good_signal, names_all, check1, check2, check3, check4, check5, check6, checks}
-use Rattle.tables.specs.declared.Check.{Check}
-use Rattle.tables.specs.declared.Check.TheVariants.{Passed, Refused}
+use Rattle.tables.specs.Check.{Check, Passed, Refused}
 
 -- kind, reference and vector number of each signal
 abbrev Signals : Type 0

@@ -3,7 +3,7 @@
 use Rattle.std.specs.Prelude.{◌≡◌, refl, ℕ, ◌^◌, ◌-◌, List, [], ◌∷◌, ◌++◌, replicate}
 use Rattle.leb128.specs.Leb128.{value, goes_on, signed_value, signed_bits, leb_of, unsigned_tenth, signed_tenth, read_unsigned}
 use Rattle.leb128.specs.Leb128.Examples.{Spells, SpellsSigned, minus}
-use Rattle.leb128.specs.declared.Leb.TheVariants.{Large}
+use Rattle.leb128.specs.Leb.{Large}
 use Rattle.states.specs.declared.States.TheVariants.{Nine}
 use Rattle.states.specs.Kind.{bytes_required}
 use Rattle.states.specs.Packed.{digits, bytes, packed}

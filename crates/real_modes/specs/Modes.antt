@@ -6,8 +6,7 @@ use Rattle.std.proofs.Math.Path.{refl, sym, ap}
 use Rattle.std.proofs.Common.{◌∙◌, ⊎_elim, arith}
 use Rattle.slices.specs.Choice.{le_or_lt}
 use Rattle.tables.specs.Lists.{Lists, nth}
-use Rattle.tables.specs.declared.Check.{Check}
-use Rattle.tables.specs.declared.Check.TheVariants.{Passed, Refused}
+use Rattle.tables.specs.Check.{Check, Passed, Refused}
 use Rattle.tables.specs.Good.{Signals}
 use Rattle.tables.specs.Good.Laws.{good}
 use Rattle.values.specs.Value.{manner, ordinary}

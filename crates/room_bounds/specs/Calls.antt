@@ -1,10 +1,10 @@
 -- A call with one output whose bytes all fit is not refused with 16.
 -- Assumes nothing.
+use Rattle.refusals.specs.Laws.{same_number}
 use Rattle.std.specs.Prelude.{ℕ, ◌≤◌, ◌≡◌, ◌≢◌, Bool, true, false, length}
 use Rattle.std.proofs.Common.{inl, inr, arith}
 use Rattle.tables.specs.Checks.{unless}
-use Rattle.tables.specs.declared.Check.{Check}
-use Rattle.tables.specs.declared.Check.TheVariants.{Passed, Refused}
+use Rattle.tables.specs.Check.{Check, Passed, Refused}
 use Rattle.answers.specs.Outcome.{LeftKept}
 use Rattle.courses.specs.Course.{Course, bytes_of}
 use Rattle.courses.proofs.Course.Laws.{over_more}
@@ -29,4 +29,4 @@ module _ (checks : Check) (ends : ℕ → Type 0) (faults : ℕ → ℕ → Type
 pub unless_not : (b : Bool) (n : ℕ) → n ≢ 16 → (p : ℕ) → unless b n ≡ Refused 16 p → ⊥
 unfolding unless
 unless_not true n m p e = let z : ◌≡◌ {A = ℕ} 0 1 = cc in omega arith
-unless_not false n m p e = m (cc)
+unless_not false n m p e = m (same_number e)

@@ -12,7 +12,7 @@ use Rattle.std.proofs.Math.ListN.{length, length-append}
 use Rattle.tables.specs.Lists.{Lists, nth}
 use Rattle.tables.specs.Good as tables
 use Rattle.tables.specs.Good.Laws as good
-use Rattle.tables.specs.declared.Check.TheVariants.{Passed}
+use Rattle.tables.specs.Check.{Passed}
 use Rattle.values.specs.declared.How.{How}
 use Rattle.values.specs.Value.Laws.{value_next}
 use Rattle.rules.specs.Vector.{acts_early}

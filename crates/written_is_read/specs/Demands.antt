@@ -6,15 +6,13 @@ use Rattle.std.proofs.Math.Path.{refl, ap}
 use Rattle.std.proofs.Common.{sym, ◌∙◌, inl, inr, arith}
 use Rattle.numbers.specs.Fixed.Laws.{Bytes}
 use Rattle.leb128.specs.Leb128.{read_unsigned, read_signed}
-use Rattle.leb128.specs.declared.Leb.{Leb}
-use Rattle.leb128.specs.declared.Leb.TheVariants.{Value}
+use Rattle.leb128.specs.Leb.{Leb, Value}
 use Rattle.number_writer.specs.Ended.{Ended, wrote}
 use Rattle.number_writer.specs.Ended as ended
 use Rattle.leb128.specs.Shortest.{unsigned_bytes, signed_bytes}
 use Rattle.leb128.specs.Shortest.Laws.{unsigned_back, signed_back, unsigned_least, signed_least}
 use Rattle.tables.specs.Lists.{Lists}
-use Rattle.tables.specs.declared.Check.{Check}
-use Rattle.tables.specs.declared.Check.TheVariants.{Passed, Refused}
+use Rattle.tables.specs.Check.{Check, Passed, Refused}
 use Rattle.rules.specs.Scan.{Scan, Ends}
 use Rattle.section_scan.specs.Sections.{scan_sections}
 use Rattle.changes.specs.Changes.{scan_changes}

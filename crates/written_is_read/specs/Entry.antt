@@ -6,8 +6,7 @@ use Rattle.std.proofs.Common.{◌∙◌, le-leb}
 use Rattle.numbers.specs.Fixed.Laws.{Bytes}
 use Rattle.tables.specs.Lists.{Lists}
 use Rattle.tables.specs.Checks.{check1, checks}
-use Rattle.tables.specs.declared.Check.{Check}
-use Rattle.tables.specs.declared.Check.TheVariants.{Passed, Refused}
+use Rattle.tables.specs.Check.{Check, Passed, Refused}
 use Rattle.values.specs.Value.{ordinary}
 use Rattle.event_rooms.specs.Out.{Rooms}
 use Rattle.event_rooms.specs.Out.{Rooms}

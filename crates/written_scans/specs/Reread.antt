@@ -3,6 +3,7 @@
 use Rattle.rules.specs.Gather.{Act, time, write, step_end}
 use Rattle.rules.specs.Scan.{Scan, say, done, fault}
 use Rattle.gather.specs.Run.{Went, went, out}
+pub mod Same
 pub mod Known
 pub mod Stands
 pub mod Scanned

@@ -6,8 +6,7 @@ use Rattle.std.proofs.Common.{◌∙◌, arith, take-append-drop, length-take-le
 use Rattle.std.proofs.Math.Logic.{inl, inr}
 use mathlib.Core.List.{List, []}
 use Rattle.std.proofs.Math.ListN.{length}
-use Rattle.tables.specs.declared.Check.{Check}
-use Rattle.tables.specs.declared.Check.TheVariants.{Passed, Refused}
+use Rattle.tables.specs.Check.{Check, Passed, Refused}
 use Rattle.number_writer.specs.Ended.{Ended, wrote}
 use Rattle.number_writer.specs.Ended as ended
 use Rattle.answers.specs.Outcome.{Outcome, accepted, refused, answer, event_bytes, value_bytes, padded, LeftKept, leaves_kept}

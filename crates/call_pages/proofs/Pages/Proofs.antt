@@ -5,9 +5,9 @@ use Rattle.std.proofs.Math.Path.{◌≡◌, refl, sym, ap}
 use Rattle.std.proofs.Common.{subst, ◌∙◌, inl, inr, arith}
 use Rattle.std.proofs.Math.Bool.{cond}
 use Rattle.tables.specs.Lists.{Lists}
+use Rattle.refusals.specs.Laws.{same_number}
 use Rattle.tables.specs.Checks.{unless, and_then}
-use Rattle.tables.specs.declared.Check.{Check}
-use Rattle.tables.specs.declared.Check.TheVariants.{Passed, Refused}
+use Rattle.tables.specs.Check.{Check, Passed, Refused}
 use Rattle.checks.specs.Checked.{checks_without_room, without_number}
 use Rattle.values.specs.Value.{ordinary}
 use Rattle.number_writer.specs.Ended as ended
@@ -64,7 +64,7 @@ checked_then (Refused n p) l o = refl
 unless_low : (b : Bool) (m : ℕ) → 1 ≤ m → (n p : ℕ) → unless b m ≡ Refused n p → 1 ≤ n
 unfolding unless
 unless_low true m h n p e = let z : ◌≡◌ {A = ℕ} 0 1 = cc in absurd (omega arith)
-unless_low false m h n p e = let z : m ≡ n = cc in omega arith
+unless_low false m h n p e = let z : m ≡ n = same_number e in omega arith
 
 then_low : (k l : Check) → ((n p : ℕ) → k ≡ Refused n p → 1 ≤ n) → ((n p : ℕ) → l ≡ Refused n p → 1 ≤ n) → (n p : ℕ)
     → and_then k l ≡ Refused n p → 1 ≤ n

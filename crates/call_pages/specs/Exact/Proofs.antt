@@ -2,7 +2,7 @@
 -- Assumes nothing.
 use Rattle.std.specs.Prelude.{ℕ, ◌-◌}
 use mathlib.Core.List.{[]}
-use Rattle.tables.specs.declared.Check.{Check}
+use Rattle.tables.specs.Check.{Check}
 use Rattle.answers.specs.Outcome.{Outcome}
 use Rattle.answers.specs.Filled.{filled}
 use Rattle.entries.specs.Entries.{checked}

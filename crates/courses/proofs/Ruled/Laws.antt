@@ -10,8 +10,7 @@ use Rattle.slices.specs.Splice.{part}
 use Rattle.slices.specs.Splice.Laws.{length_part}
 use Rattle.records.specs.declared.Record.{Record}
 use Rattle.records.specs.declared.Record.TheVariants.{Time, Value, Real}
-use Rattle.event_streams.specs.declared.Next.{Next}
-use Rattle.event_streams.specs.declared.Next.TheVariants.{Event, End, Bad}
+use Rattle.event_streams.specs.Next.{Next, Event, End, Bad}
 use Rattle.event_streams.specs.Stream.{is_time, next_event}
 use Rattle.event_streams.proofs.Stream.Laws.{found_event}
 use Rattle.number_writer.specs.Ended.{Ended}

@@ -12,8 +12,8 @@ use Rattle.tables.specs.Lists.{Lists, nth}
 use Rattle.rules.specs.Gather.{Act, time, write, step_end}
 use Rattle.rules.specs.Scan.{Scan, say}
 use Rattle.rules.specs.Scan as scan
-use Rattle.changes.specs.declared.Change.{Change}
-use Rattle.changes.specs.declared.Change.TheVariants as change
+use Rattle.changes.specs.Change.{ChangeFound}
+use Rattle.changes.specs.Change as change
 use Rattle.changes.specs.Changes.{next_change, one_record, changes, scan_changes}
 use Rattle.sections_writer.specs.declared.Pen.{Pen}
 use Rattle.sections_writer.specs.Writer.{Given, goes, ends, stops, time_bytes, time_good, timed, write_bytes, wrote_to, stepped, closing, given_time, given_write, given, begin, one, writing, write_sections}
@@ -133,7 +133,7 @@ module _ (t : Lists) (flag : Bool) (s : List ℕ) where
         (by_test (cond (begun p) (follows p.time u) true) (time_bytes flag p u) (timed p u) j 23 (time u)
         (in_order true u 0 j (more' true j)) (rw (begun_next p.steps) at (rec (timed p u) j)))
 
-    turn : (c : Change) → Alike (on_given t flag s p (given t flag s p i c) more) (scanned p i (one_record t s c i more'))
+    turn : (c : ChangeFound) → Alike (on_given t flag s p (given t flag s p i c) more) (scanned p i (one_record t s c i more'))
     unfolding given given_write one_record on_given in_order
     turn (change.Time u j) = time_like u j
     turn (change.Write id v j) =

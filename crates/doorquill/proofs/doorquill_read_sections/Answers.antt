@@ -9,11 +9,11 @@ checks-requires c = search (entry_laws, rules)
 pub refuse-requires : goal.refuse-requires
 refuse-requires c = search (entry_laws, rules)
 
-pub returns-in-Passed : goal.returns-in-Passed
-returns-in-Passed c = search (entry_laws, rules)
+pub returns-in-Ok : goal.returns-in-Ok
+returns-in-Ok c = search (entry_laws, rules)
 
-pub returns-in-Refused : goal.returns-in-Refused
-returns-in-Refused c = search (entry_laws, rules)
+pub returns-in-Err : goal.returns-in-Err
+returns-in-Err c = search (entry_laws, rules)
 
 pub sections_passed-requires : goal.sections_passed-requires
-sections_passed-requires c = ask_passed _ _ _ _ _ _ c.checks.ensures c.in-Passed.is
+sections_passed-requires c = ask_passed _ _ _ _ _ _ c.checks.ensures c.in-Ok.is

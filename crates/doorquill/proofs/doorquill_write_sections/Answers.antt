@@ -16,8 +16,8 @@ end_filled-requires c = search (entry_laws, filled_laws, rules)
 pub refuse_kept-requires : goal.refuse_kept-requires
 refuse_kept-requires c = search (entry_laws, filled_laws, rules)
 
-pub returns-in-Passed : goal.returns-in-Passed
-returns-in-Passed c = search (entry_laws, filled_laws, rules)
+pub returns-in-Ok : goal.returns-in-Ok
+returns-in-Ok c = search (entry_laws, filled_laws, rules)
 
-pub returns-in-Refused : goal.returns-in-Refused
-returns-in-Refused c = search (entry_laws, filled_laws, rules)
+pub returns-in-Err : goal.returns-in-Err
+returns-in-Err c = search (entry_laws, filled_laws, rules)

@@ -6,8 +6,8 @@ use borrow.Author.Tests.{le-leb}
 use Rattle.std.proofs.Math.ListN.{length}
 use Rattle.tables.specs.Lists.{Lists}
 use Rattle.tables.specs.Checks.{unless, and_then, within_limit, check1, check2, checks}
-use Rattle.tables.specs.declared.Check.{Check}
-use Rattle.tables.specs.declared.Check.TheVariants.{Passed, Refused}
+use Rattle.refusals.specs.Laws.{same_number, same_place}
+use Rattle.tables.specs.Check.{Check, Passed, Refused}
 use Rattle.values.specs.Value.{ordinary}
 use Rattle.rules.specs.Vector.{acts_early}
 use Rattle.rules.specs.Demand3.{Demand3}
@@ -94,7 +94,7 @@ demand1_by (Refused m q) h t flag s l flat =
       room = refl;
       list = refl;
       flat = refl;
-      checks = λ n p e. ((cc), (cc));
+      checks = λ n p e. (same_number e, same_place e);
     }
 
 -- ---- the entry

@@ -13,8 +13,7 @@ use Rattle.slices.specs.Splice.{part}
 use Rattle.slices.specs.Splice.Laws.{length_part}
 use Rattle.tables.specs.Lists.{Lists, signals, vectors}
 use Rattle.tables.specs.Checks.{unless, check2, equal_lengths}
-use Rattle.tables.specs.declared.Check.{Check}
-use Rattle.tables.specs.declared.Check.TheVariants.{Passed, Refused}
+use Rattle.tables.specs.Check.{Check, Passed, Refused}
 use Rattle.values.specs.Value.{ordinary}
 use Rattle.doorquill.specs.declared.Vector.{Vector}
 use Rattle.answers.specs.Outcome.{Lent}

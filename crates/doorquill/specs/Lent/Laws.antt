@@ -1,6 +1,6 @@
 -- What the proofs of the functions below the entry search.
 -- Assumes nothing.
-use Rattle.std.specs.Prelude.{◌≡◌, refl, ℕ, zero, ◌+◌, ◌-◌, ◌*◌, ◌%◌, ◌<◌, ◌≤◌, Bool, true, false, ◌&&◌, List, [], ◌∷◌, ◌++◌, map, length, get_or, set, take, drop, replicate, leb, eqb}
+use Rattle.std.specs.Prelude.{◌≡◌, refl, ℕ, zero, ◌+◌, ◌-◌, ◌*◌, ◌%◌, ◌<◌, ◌≤◌, Bool, true, false, ◌&&◌, List, [], ◌∷◌, ◌++◌, map, length, get_or, set, take, drop, replicate, leb, eqb, cond, Ok, Err}
 use Rattle.std.proofs.Common.{sym, ◌∙◌, arith, take_at, length-set}
 use Rattle.std.proofs.lemmas.List.{map-append, length-map}
 use borrow.Author.Tests.{le-leb, lt-leb, leb-true}
@@ -9,8 +9,7 @@ use Rattle.slices.specs.Splice.Laws.{splice_nil, splice_snoc, part_zero, part_sn
 use Rattle.tables.specs.Lists.{lists}
 use Rattle.tables.specs.Checks.{unless, and_then, within_limit, check1}
 use Rattle.tables.specs.Checks.Laws.{both, unless_passed, then_passed}
-use Rattle.tables.specs.declared.Check.{Check}
-use Rattle.tables.specs.declared.Check.TheVariants.{Passed, Refused}
+use Rattle.tables.specs.Check.{Check, Passed, Refused}
 use Rattle.values.specs.declared.How.{How}
 use Rattle.values.specs.Value.{ordinary}
 use Rattle.answers.specs.declared.Answer.{Answer}
@@ -93,7 +92,7 @@ module _ (kinds refs vecs v flat : ℕ) where
       unfolding check_flat and_then unless
       flat_uneven h f = rw (← e, t, le-leb v 16383 h, f)
 
-      pub flat_even : v ≤ 16383 → even ≡ true → {c : Check} → c ≡ unless (leb (4 * v) flat) 6 → c ≡ check_flat kinds refs vecs v flat
+      pub flat_even : v ≤ 16383 → even ≡ true → {c : Check} → c ≡ cond (leb (4 * v) flat) (Ok tt) (Err (6, 0)) → c ≡ check_flat kinds refs vecs v flat
       unfolding check_flat and_then unless
       flat_even h f k = rw (← e, t, le-leb v 16383 h, f) k
 

@@ -5,8 +5,7 @@ use Rattle.std.proofs.Common.{subst, arith}
 use Rattle.slices.specs.Choice.{cond_ind}
 use Rattle.tables.specs.Lists.{Lists}
 use Rattle.tables.specs.Checks.{unless, lowest, and_then, check1, check2, check3, check4, check5, check6, checks}
-use Rattle.tables.specs.declared.Check.{Check}
-use Rattle.tables.specs.declared.Check.TheVariants.{Passed, Refused}
+use Rattle.tables.specs.Check.{Check, Passed, Refused}
 
 Within6 : Check → Type 0
 Within6 Passed = Unit {0}

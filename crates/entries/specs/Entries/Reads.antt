@@ -8,8 +8,7 @@ use Rattle.std.proofs.Math.Nat.{zero-add}
 use native.Mathlib.Omega.{arith}
 use Rattle.tables.specs.Lists.{Lists}
 use Rattle.tables.specs.Checks.{checks}
-use Rattle.tables.specs.declared.Check.{Check}
-use Rattle.tables.specs.declared.Check.TheVariants.{Passed, Refused}
+use Rattle.tables.specs.Check.{Check, Passed, Refused}
 use Rattle.rules.specs.Gather.{State, begin}
 use Rattle.records.specs.Event.{Event}
 use Rattle.event_rooms.specs.Out.{Rooms, Out, empty, append_all}

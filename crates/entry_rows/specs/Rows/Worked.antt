@@ -4,7 +4,7 @@ use Rattle.std.specs.Prelude.{ℕ, ◌-◌, ◌^◌, ◌≡◌, refl, false, Lis
 use Rattle.std.proofs.Common.{of_z}
 use Rattle.std.specs.Int.{w64}
 use Rattle.numbers.specs.Fixed.{big_bytes}
-use Rattle.values.specs.declared.Read.TheVariants.{Value, Bad}
+use Rattle.values.specs.Read.{Value, Bad}
 use Rattle.values.specs.Value.{ordinary, unsigned, signed}
 use Rattle.rules.specs.Gather.{time, write, step_end}
 use Rattle.rules.specs.Scan.{say, done, fault}

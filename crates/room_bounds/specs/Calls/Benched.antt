@@ -10,8 +10,7 @@ use Rattle.slices.specs.Choice.{cond_ind}
 use Rattle.numbers.specs.Fixed.{big_bytes}
 use Rattle.tables.specs.Checks.{and_then}
 use Rattle.tables.specs.Checks.Laws.{both}
-use Rattle.tables.specs.declared.Check.{Check}
-use Rattle.tables.specs.declared.Check.TheVariants.{Passed, Refused}
+use Rattle.tables.specs.Check.{Check, Passed, Refused}
 use Rattle.step_ends.specs.declared.Names.{Names}
 use Rattle.step_ends.specs.declared.Watch.{Watch}
 use Rattle.step_ends.specs.Steps.{Steps, unseen, step_ends, rose, rises_from, rises}

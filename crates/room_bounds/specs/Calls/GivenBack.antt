@@ -13,8 +13,7 @@ use Rattle.numbers.specs.Fixed.{big_bytes}
 use Rattle.tables.specs.Lists.{Lists, nth}
 use Rattle.checks.specs.Checked.{checks_without_room, without_number}
 use Rattle.values.specs.declared.How.{How}
-use Rattle.values.specs.declared.Read.{Read}
-use Rattle.values.specs.declared.Read.TheVariants.{Value}
+use Rattle.values.specs.Read.{Read, Value, Bad}
 use Rattle.values.specs.Value.{ordinary, value, real}
 use Rattle.values.specs.Value.Laws.{value_next, value_real}
 use Rattle.rules.proofs.Vector.Laws.{by_test}
@@ -34,11 +33,16 @@ use Rattle.room_bounds.specs.Costs.{costs_of, covers_all}
 use Rattle.room_bounds.specs.Costs.Sections.{Pays, sections_covered}
 use Rattle.room_bounds.specs.Calls.{not_full}
 
+-- the place after what was read
+next_in : Read → ℕ
+next_in (Value v j) = j
+next_in (Bad n p) = 0
+
 -- a real has eight bytes
 real_long : (how : How) (s : List ℕ) (i v j : ℕ) → real how s i ≡ Value v j → i + 8 ≤ j
-unfolding real
+unfolding real next_in
 real_long how s i v j = cond_ind (leb (i + 8) (length s)) _ _ (λ (r : Read). r ≡ Value v j → i + 8 ≤ j)
-    (λ a e. let f : i + 8 ≡ j = cc in omega arith) (λ a e. let z : ◌≡◌ {A = ℕ} 0 1 = cc in absurd (omega arith))
+    (λ a e. let f : i + 8 ≡ j = ap next_in e in omega arith) (λ a e. let z : ◌≡◌ {A = ℕ} 0 1 = cc in absurd (omega arith))
 
 module _ (t : Lists) (s : List ℕ) where
   abbrev long : Act → ℕ

@@ -15,8 +15,8 @@ use Rattle.numbers.specs.Fixed.{big}
 use Rattle.rules.proofs.Vector.Laws.{by_test}
 use Rattle.records.specs.declared.Record.{Record}
 use Rattle.records.specs.declared.Record.TheVariants.{Time, Value, Real}
-use Rattle.event_streams.specs.declared.Next.{Next}
-use Rattle.event_streams.specs.declared.Next.TheVariants as next
+use Rattle.event_streams.specs.Next.{Next}
+use Rattle.event_streams.specs.Next as next
 use Rattle.event_streams.specs.Stream.{event_length, record_at, is_time, next_event}
 use Rattle.event_streams.proofs.Stream.Laws.{Stands, Found, found}
 use Rattle.encoder.specs.Rule.Keeping.Laws.{next_is}
@@ -24,8 +24,7 @@ use Rattle.step_ends.specs.declared.Names.{Names}
 use Rattle.step_ends.specs.declared.Line.{Line}
 use Rattle.step_ends.specs.declared.Line.TheVariants.{Session, Strobe, Close, Other}
 use Rattle.step_ends.specs.declared.Watch.{Watch}
-use Rattle.step_ends.specs.declared.Seen.{Seen}
-use Rattle.step_ends.specs.declared.Seen.TheVariants.{More, Step, End, Bad}
+use Rattle.step_ends.specs.Seen.{SeenFound, More, Step, End, Bad}
 use Rattle.step_ends.specs.Steps.{line_of, suits, shows, see_time, see_value, see_real, see_event, see_next, see, Steps, step, done, refused, last_step, on_seen, unseen, steps_from, step_ends, rose, rises_from, rises}
 
 -- ---- how long a record is
@@ -87,7 +86,7 @@ module _ (names : Names) (s values : List ℕ) where
     b = before.strobe
 
     -- what one record does
-    abbrev Moves : Seen → Type 0
+    abbrev Moves : SeenFound → Type 0
     Moves (More v j) = (j ≤ length s) × (v.begun ≡ false → v.strobe ≡ b) × (credit b v + i ≤ credit b w + j)
     Moves (Step v j) = (i + 9 ≤ j) × (j ≤ length s) × (w.begun ≡ true) × (v.begun ≡ true) × (v.strobe ≡ w.strobe)
     Moves End = Unit {0}
@@ -171,7 +170,7 @@ module _ (names : Names) (s values : List ℕ) where
   paid (suc fuel) before w i f l =
       by (see names s values w i) (see_moves before w i f) (λ before' v j g k. paid fuel before' v j g k)
     where
-      by : (x : Seen) → Moves before w i x
+      by : (x : SeenFound) → Moves before w i x
           → ((before' v : Watch) (j : ℕ) → (v.begun ≡ false → v.strobe ≡ before'.strobe) → j ≤ length s
           → 34 * rises_from before' (steps_from names s values fuel v j) + j ≤ length s + credit before'.strobe v)
           → 34 * rises_from before (on_seen w i x (λ v j. steps_from names s values fuel v j)) + i ≤ length s + credit
@@ -194,7 +193,7 @@ module _ (names : Names) (s values : List ℕ) where
 
 -- ---- a record of the stream is never refused with 16
 
-abbrev Fine : Seen → Type 0
+abbrev Fine : SeenFound → Type 0
 Fine (More v j) = Unit {0}
 Fine (Step v j) = Unit {0}
 Fine End = Unit {0}
@@ -235,7 +234,7 @@ module _ (names : Names) (s values : List ℕ) where
   steps_never zero w i = last_never w.begun w i
   steps_never (suc fuel) w i = by (see names s values w i) (see_fine w i) (λ v j. steps_never fuel v j)
     where
-      by : (x : Seen) → Fine x → ((v : Watch) (j : ℕ) → Never (steps_from names s values fuel v j))
+      by : (x : SeenFound) → Fine x → ((v : Watch) (j : ℕ) → Never (steps_from names s values fuel v j))
           → Never (on_seen w i x (λ v j. steps_from names s values fuel v j))
       by (More v j) f rec = rec v j
       by (Step v j) f rec = rec v j

@@ -10,8 +10,7 @@ use Rattle.std.proofs.Math.ListN.{length, length-append}
 use Rattle.slices.specs.Choice.{cond_ind}
 use Rattle.slices.specs.Splice.{part}
 use Rattle.slices.specs.Splice.Laws.{length_part}
-use Rattle.event_streams.specs.declared.Next.{Next}
-use Rattle.event_streams.specs.declared.Next.TheVariants.{Event, End, Bad}
+use Rattle.event_streams.specs.Next.{Next, Event, End, Bad}
 use Rattle.event_streams.specs.Stream.{event_length, next_event}
 use Rattle.event_streams.proofs.Stream.Laws.{found_event}
 use Rattle.encoder.specs.declared.Clock.{Clock}

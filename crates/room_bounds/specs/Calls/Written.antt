@@ -16,14 +16,14 @@ use Rattle.number_writer.specs.Little.Laws.{length_little_bytes, length_fixed_by
 use Rattle.tables.specs.Lists.{Lists, nth, signals}
 use Rattle.tables.specs.Checks.Laws.{then_passed}
 use Rattle.tables.specs.Good.Laws as good
-use Rattle.tables.specs.declared.Check.TheVariants.{Passed}
+use Rattle.tables.specs.Check.{Passed}
 use Rattle.checks.specs.Checked.{checks_without_room, without_number}
 use Rattle.rules.proofs.Vector.Laws.{by_test}
 use Rattle.rules.specs.Gather.{time, write, step_end}
 use Rattle.rules.specs.Scan.{Scan, say}
 use Rattle.rules.specs.Scan as scan
-use Rattle.changes.specs.declared.Change.{Change}
-use Rattle.changes.specs.declared.Change.TheVariants as change
+use Rattle.changes.specs.Change.{ChangeFound}
+use Rattle.changes.specs.Change as change
 use Rattle.changes.specs.Changes.{next_change, scan_changes}
 use Rattle.changes.specs.Changes.Steps.{changes_number}
 use Rattle.sections_writer.specs.declared.Pen.{Pen}
@@ -134,7 +134,7 @@ module _ (t : Lists) (flag : Bool) (s : List ℕ) (few : signals t ≤ 65535) wh
         (λ e. let x : slack (eqb p.steps 0) p.inside ≡ 0 = rw e in omega (arith, time_long flag p u))
         (λ e. let x : slack (eqb p.steps 0) p.inside ≡ 20 = rw (e, o) in omega (arith, later_long flag p u e))
 
-    turn : (c : Change) → Long t s p.inside i c → Fits n (on_given t flag s p (given t flag s p i c) more)
+    turn : (c : ChangeFound) → Long t s p.inside i c → Fits n (on_given t flag s p (given t flag s p i c) more)
     unfolding given given_time given_write
     turn (change.Time u j) o =
         cond_ind (time_good p u) _ _ (λ g. Fits n (on_given t flag s p g more))

@@ -12,14 +12,13 @@ use Rattle.slices.specs.Splice.{part}
 use Rattle.numbers.specs.Fixed.{big}
 use Rattle.tables.specs.Lists.{Lists, nth, signals}
 use Rattle.tables.specs.Checks.Laws.{both}
-use Rattle.values.specs.declared.Read.{Read}
-use Rattle.values.specs.declared.Read.TheVariants as read
+use Rattle.values.specs.Read.{Read}
+use Rattle.values.specs.Read as read
 use Rattle.values.specs.Value.{on_read, narrow}
 use Rattle.values.specs.Value.Laws.{Ahead, narrow_ahead}
 use Rattle.rules.specs.Gather.{Act, time, write, step_end}
 use Rattle.rules.specs.Scan.{Scan, done}
-use Rattle.changes.specs.declared.Change.{Change}
-use Rattle.changes.specs.declared.Change.TheVariants.{Time, Write, StepEnd, End, Bad}
+use Rattle.changes.specs.Change.{ChangeFound, Time, Write, StepEnd, End, Bad}
 use Rattle.changes.specs.Changes.{record_length, written, write_record, in_order, change_record, next_change, one_record, changes, scan_changes}
 use Rattle.room_bounds.specs.Costs.{Covers}
 
@@ -46,7 +45,7 @@ wide_length k a b c =
 
 module _ (t : Lists) (s : List ℕ) where
   -- 9 bytes, 6 or (of a kind that is wide) 13, and 1; a time stands between steps, a write is of a signal
-  abbrev pub Long : Bool → ℕ → Change → Type 0
+  abbrev pub Long : Bool → ℕ → ChangeFound → Type 0
   Long inside i (Time u j) = (i + 9 ≤ j) × (j ≤ length s) × (inside ≡ false)
   Long inside i (Write id v j) = (i + 6 ≤ j) × (j ≤ length s) × (5 ≤ nth t.kinds id → i + 13 ≤ j) × (id ≤ signals t)
   Long inside i (StepEnd j) = (i + 1 ≤ j) × (j ≤ length s)
@@ -100,7 +99,7 @@ module _ (t : Lists) (s : List ℕ) where
     abbrev Cov : ℕ → Scan → Type 0
     Cov = Covers cost budget (length s)
 
-    one_covered : (inside : Bool) (i n : ℕ) (c : Change) (more : Bool → ℕ → Scan) → Long inside i c → n ≤ budget i
+    one_covered : (inside : Bool) (i n : ℕ) (c : ChangeFound) (more : Bool → ℕ → Scan) → Long inside i c → n ≤ budget i
         → ((b : Bool) (j m : ℕ) → m ≤ budget j → Cov m (more b j)) → Cov n (one_record t s c i more)
     unfolding one_record Covers
     one_covered inside i n (Time u j) more o l rec = let f =

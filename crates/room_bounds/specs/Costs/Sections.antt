@@ -13,17 +13,16 @@ use Rattle.numbers.specs.declared.marks.Section.{Section}
 use Rattle.numbers.specs.declared.marks.Section.TheVariants.{Snapshot, Cycle, Directory, Tailer, Unknown}
 use Rattle.tables.specs.Lists.{Lists, nth, signals}
 use Rattle.values.specs.declared.How.{How}
-use Rattle.values.specs.declared.Read.{Read}
-use Rattle.values.specs.declared.Read.TheVariants.{Value, Bad}
+use Rattle.values.specs.Read.{Read, Value, Bad}
 use Rattle.values.specs.Value.{on_read, unsigned, signed, value}
 use Rattle.values.specs.Value.Laws.{Ahead, unsigned_ahead, signed_ahead, value_ahead}
 use Rattle.rules.specs.Gather.{Act, time, write, step_end}
 use Rattle.rules.specs.Scan.{Scan, done, fault, and_then}
 use Rattle.rules.specs.Scan.Ordered.{then_then}
-use Rattle.section_scan.specs.declared.NextId.{NextId}
-use Rattle.section_scan.specs.declared.NextId.TheVariants as ids
-use Rattle.section_scan.specs.declared.NextTime.{NextTime}
-use Rattle.section_scan.specs.declared.NextTime.TheVariants as times
+use Rattle.section_scan.specs.FoundId.{FoundId}
+use Rattle.section_scan.specs.FoundId as ids
+use Rattle.section_scan.specs.FoundTime.{FoundTime}
+use Rattle.section_scan.specs.FoundTime as times
 use Rattle.section_scan.specs.Sections.{field, end_mark, each_value, next_id, one_change, change_list, next_time, snapshot, one_step, steps, cycle, entries, directory, one_section, sections, scan_sections}
 use Rattle.room_bounds.specs.Costs.{Covers}
 
@@ -80,7 +79,7 @@ module _ (t : Lists) (s : List ℕ) (cost : Act → ℕ) (budget : ℕ → ℕ) 
       pays.of_write how id i i v j e in
       (omega arith, b, each_value_lem how count (suc id) j (n + cost (write id v i)) k (omega arith) b h))
 
-  IdFound : ℕ → NextId → Type 0
+  IdFound : ℕ → FoundId → Type 0
   IdFound i (ids.Id id' j) = (i < j) × (j ≤ length s)
   IdFound i (ids.End j) = (i < j) × (j ≤ length s)
   IdFound i (ids.Bad n p) = Unit {0}
@@ -92,7 +91,7 @@ module _ (t : Lists) (s : List ℕ) (cost : Act → ℕ) (budget : ℕ → ℕ) 
       (λ d j e a b. cond_ind (eqb d 0) _ _ (IdFound i) (λ q. (a, b))
       (λ q. cond_ind (leb (id + d) (signals t)) _ _ (IdFound i) (λ l. (a, b)) (λ l. tt)))
 
-  one_change_lem : (how : How) (i n : ℕ) (x : NextId) (more : ℕ → ℕ → Scan) (k : ℕ → Scan) → IdFound i x → n ≤ budget i
+  one_change_lem : (how : How) (i n : ℕ) (x : FoundId) (more : ℕ → ℕ → Scan) (k : ℕ → Scan) → IdFound i x → n ≤ budget i
       → ((j m : ℕ) → m + S + pays.spare ≤ budget j → j ≤ length s → Cov m (k j))
       → ((id j m : ℕ) → m ≤ budget j → j ≤ length s → Cov m (and_then (more id j) k))
       → Cov n (and_then (one_change t how s x more) k)
@@ -120,7 +119,7 @@ module _ (t : Lists) (s : List ℕ) (cost : Act → ℕ) (budget : ℕ → ℕ) 
     abbrev flag : Bool
     flag = how.big_endian
 
-    TimeFound : ℕ → NextTime → Type 0
+    TimeFound : ℕ → FoundTime → Type 0
     TimeFound i (times.Time u j) = (i < j) × (j ≤ length s)
     TimeFound i (times.End j) = (i < j) × (j ≤ length s)
     TimeFound i (times.Bad n p) = Unit {0}
@@ -133,7 +132,7 @@ module _ (t : Lists) (s : List ℕ) (cost : Act → ℕ) (budget : ℕ → ℕ) 
         (λ q. cond_ind (ltb (u + d) (2 ^ 64)) _ _ (TimeFound i) (λ l. (a, b)) (λ l. tt)))
 
     module _ (k : ℕ → Scan) (h : (j m : ℕ) → m ≤ budget j → j ≤ length s → Cov m (k j)) where
-      one_step_lem : (i n : ℕ) (x : NextTime) (more : ℕ → ℕ → Scan) → TimeFound i x → n + pays.spare ≤ budget i
+      one_step_lem : (i n : ℕ) (x : FoundTime) (more : ℕ → ℕ → Scan) → TimeFound i x → n + pays.spare ≤ budget i
           → ((u j m : ℕ) → m ≤ budget j → j ≤ length s → Cov m (and_then (more u j) k))
           → Cov n (and_then (one_step t how s x more) k)
       unfolding one_step TimeFound and_then Covers

@@ -14,12 +14,12 @@ use Rattle.numbers.specs.Fixed.Laws.{Bytes}
 use Rattle.numbers.specs.Marks.{cyc, ecy, tai}
 use Rattle.tables.specs.Lists.{Lists, nth, signals}
 use Rattle.values.specs.declared.How.{How}
-use Rattle.values.specs.declared.Read.TheVariants.{Value}
+use Rattle.values.specs.Read.{Value}
 use Rattle.values.specs.Value.{ordinary, value}
 use Rattle.rules.specs.Gather.{time, write, step_end}
 use Rattle.rules.specs.Scan.{Scan, say, done, and_then}
-use Rattle.changes.specs.declared.Change.{Change}
-use Rattle.changes.specs.declared.Change.TheVariants as change
+use Rattle.changes.specs.Change.{ChangeFound}
+use Rattle.changes.specs.Change as change
 use Rattle.changes.specs.Changes.{next_change, one_record, changes, scan_changes}
 use Rattle.changes.specs.Changes.Found.{Found, change_found}
 use Rattle.section_scan.specs.Sections.{next_time, change_list, one_step, steps, sections, scan_sections}
@@ -278,7 +278,7 @@ module _ (t : Lists) (flag : Bool) (s : List ℕ) (room read : ℕ) (bs : List �
         by false b e f q = absurd (opposite refl (sym q))
 
   module _ (p : Pen) (out : List ℕ) (i : ℕ) (more : Pen → List ℕ → ℕ → Ended) (more' : Bool → ℕ → Scan) (later : Later i more more') where
-    turn : (c : Change) → Found t s i c → Known t s p.inside c → one t flag s room p out (given t flag s p i c) more ≡ wrote read bs n → Holds p out (one_record t s c i more')
+    turn : (c : ChangeFound) → Found t s i c → Known t s p.inside c → one t flag s room p out (given t flag s p i c) more ≡ wrote read bs n → Holds p out (one_record t s c i more')
     unfolding given given_time given_write one_record bare
     turn (change.Time u j) f k =
         cond_ind (time_good p u) _ _ (λ g. one t flag s room p out g more ≡ wrote read bs n → Holds p out (say (time u) j (more' true j)))

@@ -13,12 +13,11 @@ use Rattle.slices.specs.Splice.{part}
 use Rattle.numbers.specs.Fixed.{big}
 use Rattle.numbers.specs.Fixed.Laws.{Bytes, big_below, part_bytes}
 use Rattle.tables.specs.Lists.{Lists, nth, signals}
-use Rattle.values.specs.declared.Read.{Read}
-use Rattle.values.specs.declared.Read.TheVariants as read
+use Rattle.values.specs.Read.{Read}
+use Rattle.values.specs.Read as read
 use Rattle.values.specs.Value.{on_read, narrow}
 use Rattle.values.specs.Value.Reads.{Reads, narrow_reads}
-use Rattle.changes.specs.declared.Change.{Change}
-use Rattle.changes.specs.declared.Change.TheVariants.{Time, Write, StepEnd, End, Bad}
+use Rattle.changes.specs.Change.{ChangeFound, Time, Write, StepEnd, End, Bad}
 use Rattle.changes.specs.Changes.{record_length, written, write_record, in_order, change_record, next_change}
 
 -- of a write: a byte write's value is that of its last byte, and a wide one fits 64 bits
@@ -26,7 +25,7 @@ pub record Writes (kind : ℕ) (s : List ℕ) (v j : ℕ) : Type 0 where
   pub byte : kind ≤ 4 → narrow kind s (j - 1) ≡ read.Value v j
   pub wide : 5 ≤ kind → v < 2 ^ 64
 
-abbrev pub Known : Lists → List ℕ → Bool → Change → Type 0
+abbrev pub Known : Lists → List ℕ → Bool → ChangeFound → Type 0
 Known t s inside (Time u j) = (inside ≡ false) × (u < 2 ^ 64)
 Known t s inside (Write id v j) = (inside ≡ true) × (id < 2 ^ 64) × Writes (nth t.kinds id) s v j
 Known t s inside (StepEnd j) = inside ≡ true

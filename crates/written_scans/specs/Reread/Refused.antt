@@ -15,8 +15,8 @@ use Rattle.values.specs.Value.{ordinary}
 use Rattle.rules.specs.Gather.{Act, time, write, step_end}
 use Rattle.rules.specs.Scan.{Scan, say, done, fault, Ends, Faults}
 use Rattle.section_scan.specs.Sections.{scan_sections}
-use Rattle.changes.specs.declared.Change.{Change}
-use Rattle.changes.specs.declared.Change.TheVariants as change
+use Rattle.changes.specs.Change.{ChangeFound}
+use Rattle.changes.specs.Change as change
 use Rattle.changes.specs.Changes.{next_change, one_record, changes, scan_changes}
 use Rattle.sections_writer.specs.declared.Pen.{Pen}
 use Rattle.sections_writer.specs.Writer.{goes, ends, time_bytes, time_good, timed, write_bytes, wrote_to, stepped, closing, given_time, given_write, given, begin, one, writing, write_sections}
@@ -56,7 +56,7 @@ module _ (t : Lists) (flag : Bool) (s : List ℕ) (room : ℕ) where
     unfolding one
     over bs j sc f = cond_ind (leb (length out + length bs) room) _ _ (λ e. To e sc) (λ h. (f, rw length-append (leb-true _ _ h))) (λ h. inr (inl refl))
 
-    turn : (i : ℕ) (more' : Bool → ℕ → Scan) → Later more more' → (c : Change) → To (one t flag s room p out (given t flag s p i c) more) (one_record t s c i more')
+    turn : (i : ℕ) (more' : Bool → ℕ → Scan) → Later more more' → (c : ChangeFound) → To (one t flag s room p out (given t flag s p i c) more) (one_record t s c i more')
     unfolding given given_time given_write one_record one Ends Faults
     turn i more' rec (change.Time u j) =
         cond_ind (time_good p u) _ _ (λ g. To (one t flag s room p out g more) (say (time u) j (more' true j)))

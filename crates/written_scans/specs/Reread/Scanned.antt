@@ -11,11 +11,11 @@ use Rattle.numbers.specs.Marks.{cyc, ecy, tai}
 use Rattle.numbers.specs.Marks.Laws.{same_is, marks_open}
 use Rattle.tables.specs.Lists.{Lists, nth, signals}
 use Rattle.values.specs.declared.How.{How}
-use Rattle.values.specs.declared.Read.TheVariants.{Value}
+use Rattle.values.specs.Read.{Value}
 use Rattle.values.specs.Value.{ordinary, on_read, value}
 use Rattle.rules.specs.Gather.{time, write}
 use Rattle.rules.specs.Scan.{Scan, say, done, and_then}
-use Rattle.section_scan.specs.declared.NextTime.TheVariants as times
+use Rattle.section_scan.specs.FoundTime as times
 use Rattle.section_scan.specs.Sections.{field, end_mark, next_id, one_change, change_list, next_time, one_step, steps, cycle, one_section, sections}
 use Rattle.leb128.specs.Shortest.{unsigned_bytes, signed_bytes, groups, fits, rest}
 use Rattle.number_writer.specs.Little.{fixed_bytes}

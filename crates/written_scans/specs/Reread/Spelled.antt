@@ -1,5 +1,6 @@
 -- A change record that was read is spelled by its act: what stands there is the act's record.
 -- Assumes nothing.
+use Rattle.written_scans.specs.Reread.Same.{same_value, same_next}
 use Rattle.std.specs.Prelude.{◌≡◌, ℕ, suc, ◌+◌, ◌-◌, ◌≤◌, ◌<◌, Bool, ◌&&◌, List, [], ◌∷◌, ◌++◌, ◌⊎◌, length, eqb}
 use Rattle.std.proofs.Math.Path.{refl, sym, ap}
 use Rattle.std.proofs.Common.{◌∙◌, append_assoc, ⊎_elim, add-one, take-append-drop, drop-cons, drop-drop}
@@ -16,17 +17,16 @@ use Rattle.numbers.specs.Fixed.Laws.{Bytes, big_bytes_back, part_bytes}
 use Rattle.states.specs.Letters.{mapped, unmapped}
 use Rattle.states.specs.Letters.Laws.{unmapped_back}
 use Rattle.tables.specs.Lists.{Lists, nth, signals}
-use Rattle.values.specs.declared.Read.{Read}
-use Rattle.values.specs.declared.Read.TheVariants as read
+use Rattle.values.specs.Read.{Read}
+use Rattle.values.specs.Read as read
 use Rattle.values.specs.Value.{on_read, byte_up_to, narrow}
 use Rattle.rules.specs.Gather.{time, write, step_end}
-use Rattle.changes.specs.declared.Change.{Change}
-use Rattle.changes.specs.declared.Change.TheVariants.{Time, Write, StepEnd, End, Bad}
+use Rattle.changes.specs.Change.{ChangeFound, Time, Write, StepEnd, End, Bad}
 use Rattle.changes.specs.Changes.{record_length, written, write_record, in_order, change_record, next_change}
 use Rattle.changes.specs.Changes.Whole.{Whole, Writes, whole_time, whole_write, length_none}
 use Rattle.read_back.specs.ReadBack.{byte_of, write_of, record_of}
 
-abbrev pub Spelled : Lists → List ℕ → ℕ → Change → Type 0
+abbrev pub Spelled : Lists → List ℕ → ℕ → ChangeFound → Type 0
 Spelled t s i (Time u j) = drop i s ≡ record_of t (time u) ++ drop j s
 Spelled t s i (Write id v j) = drop i s ≡ record_of t (write id v i) ++ drop j s
 Spelled t s i (StepEnd j) = drop i s ≡ record_of t step_end ++ drop j s
@@ -44,7 +44,7 @@ module _ (s : List ℕ) (a v j : ℕ) where
   byte_value most map =
       cond_ind (leb (a + 1) (length s)) _ _ (λ r. r ≡ read.Value v j → (get_or s a 0 ≤ most) × (map (get_or s a 0) ≡ v) × (j ≡ a + 1))
       (λ t. cond_ind (leb (get_or s a 0) most) _ _ (λ r. r ≡ read.Value v j → (get_or s a 0 ≤ most) × (map (get_or s a 0) ≡ v) × (j ≡ a + 1))
-      (λ u w. (leb-true _ _ u, cc, (let e : a + 1 ≡ j = cc in sym e))) (λ u w. absurd (not_value w)))
+      (λ u w. (leb-true _ _ u, same_value w, sym (same_next w))) (λ u w. absurd (not_value w)))
       (λ t w. absurd (not_value w))
 
   -- a byte write's value is that of its byte

@@ -1,5 +1,6 @@
 -- What is read where written bytes stand.
 -- Assumes nothing.
+use Rattle.written_scans.specs.Reread.Same.{same_value}
 use Rattle.std.specs.Prelude.{◌≡◌, ℕ, ◌+◌, ◌-◌, ◌^◌, ◌≤◌, ◌<◌, Bool, List, [], ◌∷◌, ◌++◌, get_or, drop, leb}
 use Rattle.std.proofs.Math.Path.{refl, ap}
 use Rattle.std.proofs.Common.{sym, ◌∙◌, append_assoc, arith, le-leb, eqb-true, length-append, length-drop, drop-drop, get_or-drop}
@@ -13,8 +14,7 @@ use Rattle.slices.specs.Choice.{cond_ind, le_or_lt}
 use Rattle.slices.specs.Splice.{part}
 use Rattle.numbers.specs.Fixed.{fixed, little}
 use Rattle.states.specs.Letters.{mapped}
-use Rattle.values.specs.declared.Read.{Read}
-use Rattle.values.specs.declared.Read.TheVariants.{Value, Bad}
+use Rattle.values.specs.Read.{Read, Value, Bad}
 use Rattle.values.specs.Value.Laws.{value_narrow, value_integer, value_real}
 use Rattle.values.specs.Value.{ordinary, number, unsigned, signed, byte_up_to, real, narrow, value}
 use Rattle.leb128.specs.Shortest.{unsigned_bytes, signed_bytes}
@@ -86,7 +86,7 @@ module _ (s : List ℕ) (a v : ℕ) where
   byte_same most map j e l at h q =
       cond_ind (leb (a + 1) (length s)) _ _ (λ r. r ≡ Value v j → byte_up_to most map l at ≡ Value v (at + 1))
       (λ t. cond_ind (leb (get_or s a 0) most) _ _ (λ r. r ≡ Value v j → byte_up_to most map l at ≡ Value v (at + 1))
-      (λ u w. let m : map (get_or s a 0) ≡ v = cc in rw (le-leb (at + 1) (length l) h, q, u, m))
+      (λ u w. let m : map (get_or s a 0) ≡ v = same_value w in rw (le-leb (at + 1) (length l) h, q, u, m))
       (λ u w. absurd (not_value w)))
       (λ t w. absurd (not_value w)) e
 

@@ -14,8 +14,8 @@ use Rattle.tables.specs.Lists.{Lists, nth}
 use Rattle.values.specs.Value.{ordinary}
 use Rattle.rules.specs.Gather.{Act, time, write, step_end}
 use Rattle.rules.specs.Scan.{Scan, say, done, fault}
-use Rattle.changes.specs.declared.Change.{Change}
-use Rattle.changes.specs.declared.Change.TheVariants as change
+use Rattle.changes.specs.Change.{ChangeFound}
+use Rattle.changes.specs.Change as change
 use Rattle.changes.specs.Changes.{next_change, one_record, changes, scan_changes}
 use Rattle.changes.specs.Changes.Found.{Found, change_found}
 use Rattle.section_scan.specs.Sections.{scan_sections}
@@ -79,7 +79,7 @@ module _ (t : Lists) (flag : Bool) (s : List ℕ) (room read : ℕ) (bs : List �
   Later i more more' = (q : Pen) (out : List ℕ) (j : ℕ) → i < j → j ≤ length s → more q out j ≡ wrote read bs n → Streams j q.steps (more' q.inside j)
 
   module _ (p : Pen) (out : List ℕ) (i : ℕ) (more : Pen → List ℕ → ℕ → Ended) (more' : Bool → ℕ → Scan) (later : Later i more more') where
-    turn : (c : Change) → Found t s i c → Spelled t s i c → one t flag s room p out (given t flag s p i c) more ≡ wrote read bs n → Streams i p.steps (one_record t s c i more')
+    turn : (c : ChangeFound) → Found t s i c → Spelled t s i c → one t flag s room p out (given t flag s p i c) more ≡ wrote read bs n → Streams i p.steps (one_record t s c i more')
     unfolding given given_time given_write one_record records_of times_of times
     turn (change.Time u j) f k =
         cond_ind (time_good p u) _ _ (λ g. one t flag s room p out g more ≡ wrote read bs n → Streams i p.steps (say (time u) j (more' true j)))

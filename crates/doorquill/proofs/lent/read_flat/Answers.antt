@@ -6,8 +6,8 @@ use Rattle.doorquill.proofs.lent.read_flat.Goals as goal
 pub read_passed-requires : goal.read_passed-requires
 read_passed-requires c = search (read_laws, rules)
 
-pub returns-in-Passed : goal.returns-in-Passed
-returns-in-Passed c = search (read_laws, rules)
+pub returns-in-Ok : goal.returns-in-Ok
+returns-in-Ok c = search (read_laws, rules)
 
-pub returns-in-Refused : goal.returns-in-Refused
-returns-in-Refused c = search (read_laws, rules)
+pub returns-in-Err : goal.returns-in-Err
+returns-in-Err c = search (read_laws, rules)
