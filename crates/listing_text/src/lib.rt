@@ -4,13 +4,12 @@
 mod lines;
 
 ghost use Rattle.std.specs.Prelude.{◌≡◌, min, ◌≤◌, drop};
-ghost use Rattle.tables.specs.Lists.{lists};
 ghost use Rattle.plain_text.specs.Text.{IsPrefixLen, Holds, Prints};
 ghost use Rattle.listing_text.specs.Lines.{refused_word, pair_line};
 ghost use Rattle.preamble.specs.Preamble.{preamble};
 ghost use Rattle.preamble.specs.Preamble.Loop.{up_to};
 ghost use Rattle.listing_text.specs.Listing.{told, section_lines, after_preamble, listing};
-ghost use Rattle.listing_text.specs.Listing.Code.{Within};
+ghost use Rattle.listing_text.specs.Listing.Code.{Within, lists_of};
 
 use answers::Answer;
 use doorquill::doorquill_read_sections;
@@ -21,8 +20,7 @@ use slices::u64_of_usize;
 fn least(n: u64, most: usize) -> usize
     ensures { (result ≡ min most n) × (result ≤ most) }
 {
-    let n = n as usize;
-    if most < n { most } else { n }
+    most.min(n as usize)
 }
 
 // "Alone `refused`, number, place".
@@ -44,8 +42,9 @@ fn tell(a: Answer, events: &[u8], values: &[u8], text: &mut [u8]) -> usize
     pair_line(text, end, b"done ", a.read, a.steps)
 }
 
-// Section reading, over the rooms that the listing lends.
-fn list_sections<'a>(
+// The signal and vector tables, as they are lent.
+#[derive(Clone, Copy)]
+struct Tables<'a> {
     kinds: &'a [u8],
     refs: &'a [u32],
     vecs: &'a [u32],
@@ -53,24 +52,24 @@ fn list_sections<'a>(
     maxs: &'a [u32],
     states: &'a [u8],
     vec_refs: &'a [u32],
-    big_endian: bool,
-    s: &[u8],
-    text: &mut [u8],
-) -> usize
-    ensures { Holds text.old (section_lines (lists kinds.now refs.now vecs.now mins.now maxs.now states.now vec_refs.now) big_endian s.now) text.new result }
+}
+
+// Section reading, over the rooms that the listing lends.
+fn list_sections(t: &Tables<'_>, big_endian: bool, s: &[u8], text: &mut [u8]) -> usize
+    ensures { Holds text.old (section_lines (lists_of t.now) big_endian s.now) text.new result }
 {
     let mut events = [0u8; 16384];
     let mut values = [0u8; 8192];
     let mut room = [0u8; 264];
     let mut list = [0u32; 64];
     let a = doorquill_read_sections(
-        kinds,
-        refs,
-        vecs,
-        mins,
-        maxs,
-        states,
-        vec_refs,
+        t.kinds,
+        t.refs,
+        t.vecs,
+        t.mins,
+        t.maxs,
+        t.states,
+        t.vec_refs,
         big_endian,
         false,
         s,
@@ -83,14 +82,8 @@ fn list_sections<'a>(
 }
 
 // The same, over the first entries of each table and the bytes from `at` on.
-fn list_tables<'a>(
-    kinds: &'a [u8],
-    refs: &'a [u32],
-    vecs: &'a [u32],
-    mins: &'a [u32],
-    maxs: &'a [u32],
-    states: &'a [u8],
-    vec_refs: &'a [u32],
+fn list_tables(
+    t: &Tables<'_>,
     signals: usize,
     vectors: usize,
     big_endian: bool,
@@ -98,21 +91,19 @@ fn list_tables<'a>(
     at: usize,
     text: &mut [u8],
 ) -> usize
-    requires { Within input.now (lists kinds.now refs.now vecs.now mins.now maxs.now states.now vec_refs.now) signals vectors at }
-    ensures { Holds text.old (section_lines (up_to (lists kinds.now refs.now vecs.now mins.now maxs.now states.now vec_refs.now) signals vectors) big_endian (drop at input.now)) text.new result }
+    requires { Within input.now (lists_of t.now) signals vectors at }
+    ensures { Holds text.old (section_lines (up_to (lists_of t.now) signals vectors) big_endian (drop at input.now)) text.new result }
 {
-    list_sections(
-        &kinds[..signals],
-        &refs[..signals],
-        &vecs[..signals],
-        &mins[..vectors],
-        &maxs[..vectors],
-        &states[..vectors],
-        &vec_refs[..vectors],
-        big_endian,
-        &input[at..],
-        text,
-    )
+    let first = Tables {
+        kinds: &t.kinds[..signals],
+        refs: &t.refs[..signals],
+        vecs: &t.vecs[..signals],
+        mins: &t.mins[..vectors],
+        maxs: &t.maxs[..vectors],
+        states: &t.states[..vectors],
+        vec_refs: &t.vec_refs[..vectors],
+    };
+    list_sections(&first, big_endian, &input[at..], text)
 }
 
 // The listing of input that is not too long.
@@ -136,16 +127,26 @@ fn list_short(input: &[u8], text: &mut [u8]) -> usize
         &mut states,
         &mut vec_refs,
     ) {
-        Opened::Sections {
-            signals,
-            vectors,
-            big_endian,
-            at,
-        } => list_tables(
-            &kinds, &refs, &vecs, &mins, &maxs, &states, &vec_refs, signals, vectors, big_endian,
-            input, at, text,
-        ),
-        Opened::Refused(number, place) => refuse(text, number, u64_of_usize(place)),
+        Ok(
+            Opened {
+                signals,
+                vectors,
+                big_endian,
+                at,
+            },
+        ) => {
+            let t = Tables {
+                kinds: &kinds,
+                refs: &refs,
+                vecs: &vecs,
+                mins: &mins,
+                maxs: &maxs,
+                states: &states,
+                vec_refs: &vec_refs,
+            };
+            list_tables(&t, signals, vectors, big_endian, input, at, text)
+        }
+        Err(refusal) => refuse(text, refusal.number(), u64_of_usize(refusal.place())),
     }
 }
 

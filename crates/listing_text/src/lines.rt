@@ -6,7 +6,7 @@ ghost use Rattle.plain_text.specs.Text.Laws.{Adds};
 ghost use Rattle.listing_text.specs.Lines.{time_line, hex_line, pair_line, real_word, state_word, event_line, event_lines};
 ghost use Rattle.listing_text.specs.Lines.Code.{numbered, Turned};
 
-use event_streams::{Next, next_event};
+use event_streams::next_event;
 use numbers::house::put_u64;
 use plain_text::{put, put_decimal, put_hex};
 use records::Record;
@@ -91,23 +91,17 @@ struct Progress {
     end: usize,
 }
 
-#[derive(Clone, Copy)]
-enum Turn {
-    More(Progress),
-    Over,
-}
-
 // The line of one event, or the stream's end.
-fn one(events: &[u8], values: &[u8], text: &mut [u8], p: Progress) -> Turn
+fn one(events: &[u8], values: &[u8], text: &mut [u8], p: Progress) -> Option<Progress>
     ensures { Turned events.now values.now text.old p text.new result }
 {
     match next_event(events, values.len(), true, p.read) {
-        Next::Event(event, next) => Turn::More(Progress {
+        Ok(Some((event, next))) => Some(Progress {
             read: next,
             end: event_line(text, p.end, values, event),
         }),
-        Next::End => Turn::Over,
-        Next::Bad(_, _) => Turn::Over,
+        Ok(None) => None,
+        Err(_) => None,
     }
 }
 
@@ -116,14 +110,8 @@ pub(crate) fn event_lines(events: &[u8], values: &[u8], text: &mut [u8], at: usi
     ensures { Adds text.old at (event_lines events.now values.now) text.new result }
 {
     let mut p = Progress { read: 0, end: at };
-    loop {
-        match one(events, values, text, p) {
-            Turn::More(q) => {
-                p = q;
-            }
-            Turn::Over => {
-                return p.end;
-            }
-        }
+    while let Some(next) = one(events, values, text, p) {
+        p = next;
     }
+    p.end
 }

@@ -108,12 +108,14 @@ fn opened(rt: &impl Print, input: &[u8]) -> io::Result<()> {
         &mut states,
         &mut vec_refs,
     ) {
-        Opened::Sections {
-            signals,
-            vectors,
-            big_endian,
-            at,
-        } => read(
+        Ok(
+            Opened {
+                signals,
+                vectors,
+                big_endian,
+                at,
+            },
+        ) => read(
             rt,
             first_bytes(&kinds, signals),
             first_numbers(&refs, signals),
@@ -125,7 +127,7 @@ fn opened(rt: &impl Print, input: &[u8]) -> io::Result<()> {
             big_endian,
             rest(input, at),
         ),
-        Opened::Refused(number, place) => refused(rt, number, place as u64),
+        Err(refusal) => refused(rt, refusal.number(), refusal.place() as u64),
     }
 }
 

@@ -4,12 +4,12 @@ ghost use Rattle.std.specs.Prelude.{◌≤◌, ◌<◌};
 use crate::text;
 use buffer_contents::byte_or_zero;
 use buffer_contents::parts::first_bytes;
-use leb128::Leb;
+use leb128::LebError;
 use std::io;
 
-fn show(rt: &impl Print, r: Leb, signed: bool) -> io::Result<()> {
+fn show(rt: &impl Print, r: Result<(u64, usize), LebError>, signed: bool) -> io::Result<()> {
     match r {
-        Leb::Value(v, next) => {
+        Ok((v, next)) => {
             if signed {
                 text::signed(rt, v)?;
             } else {
@@ -18,8 +18,8 @@ fn show(rt: &impl Print, r: Leb, signed: bool) -> io::Result<()> {
             text::say(rt, b" to ")?;
             text::decimal(rt, next as u64)
         }
-        Leb::Short => text::say(rt, b"short"),
-        Leb::Large => text::say(rt, b"large"),
+        Err(LebError::Short) => text::say(rt, b"short"),
+        Err(LebError::Large) => text::say(rt, b"large"),
     }
 }
 
@@ -32,7 +32,7 @@ pub(crate) fn both(rt: &impl Print, label: &[u8], s: &[u8], at: usize) -> io::Re
     text::say(rt, b"\n")
 }
 
-fn read(s: &[u8], at: usize, signed: bool) -> Leb {
+fn read(s: &[u8], at: usize, signed: bool) -> Result<(u64, usize), LebError> {
     if signed {
         return leb128::signed(s, at);
     }
@@ -53,13 +53,13 @@ fn with_sign(number: u64, size: u64, signed: bool) -> u64
 }
 
 // 1 where a reading found this number, and this place after it.
-fn found(r: Leb, number: u64, place: usize) -> u64
+fn found(r: Result<(u64, usize), LebError>, number: u64, place: usize) -> u64
     ensures { result ≤ 1 }
 {
     match r {
-        Leb::Value(v, next) => { if v == number && next == place { 1 } else { 0 } }
-        Leb::Short => 0,
-        Leb::Large => 0,
+        Ok((v, next)) => { if v == number && next == place { 1 } else { 0 } }
+        Err(LebError::Short) => 0,
+        Err(LebError::Large) => 0,
     }
 }
 
@@ -84,7 +84,7 @@ fn cut(n: usize, k: usize, signed: bool) -> u64
 {
     let mut b = [0x80u8; 12];
     b[n] = 0;
-    if let Leb::Short = read(first_bytes(&b, k), 0, signed) {
+    if let Err(LebError::Short) = read(first_bytes(&b, k), 0, signed) {
         1
     } else {
         0

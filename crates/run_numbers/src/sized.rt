@@ -3,14 +3,13 @@ ghost use Rattle.std.specs.Prelude.{◌+◌, ◌≤◌, length};
 
 use crate::text;
 use cases::{number, part};
-use numbers::fixed::Positive;
 use numbers::{fixed, house};
 use std::io;
 
-fn show(rt: &impl Print, p: Positive) -> io::Result<()> {
+fn show(rt: &impl Print, p: Option<u32>) -> io::Result<()> {
     match p {
-        Positive::Number(n) => text::decimal(rt, n as u64),
-        Positive::Negative => text::say(rt, b"negative"),
+        Some(n) => text::decimal(rt, n as u64),
+        None => text::say(rt, b"negative"),
     }
 }
 

@@ -11,6 +11,7 @@ use cases::{after, before, number, part};
 use full_reads::read_full;
 use lists::{bytes_of, fill, numbers_of};
 use std::io;
+use tables::Tables;
 use text::show;
 
 // The length of a lent buffer.
@@ -19,17 +20,20 @@ fn lent(line: &[u8], k: usize) -> usize {
 }
 
 fn checked(rt: &impl Print, line: &[u8], bytes: &[u8], words: &[u32]) -> io::Result<()> {
+    let tables = Tables {
+        kinds: bytes_of(bytes, 0, part(line, b'|', 1)),
+        refs: numbers_of(words, 1, part(line, b'|', 2)),
+        vecs: numbers_of(words, 2, part(line, b'|', 3)),
+        mins: numbers_of(words, 3, part(line, b'|', 4)),
+        maxs: numbers_of(words, 4, part(line, b'|', 5)),
+        states: bytes_of(bytes, 5, part(line, b'|', 6)),
+        vec_refs: numbers_of(words, 6, part(line, b'|', 7)),
+    };
     show(
         rt,
         part(line, b'|', 0),
         checks::checks(
-            bytes_of(bytes, 0, part(line, b'|', 1)),
-            numbers_of(words, 1, part(line, b'|', 2)),
-            numbers_of(words, 2, part(line, b'|', 3)),
-            numbers_of(words, 3, part(line, b'|', 4)),
-            numbers_of(words, 4, part(line, b'|', 5)),
-            bytes_of(bytes, 5, part(line, b'|', 6)),
-            numbers_of(words, 6, part(line, b'|', 7)),
+            &tables,
             lent(line, 0),
             lent(line, 1),
             lent(line, 2),

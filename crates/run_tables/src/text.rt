@@ -10,7 +10,7 @@ fn line(rt: &impl Print, label: &[u8], number: u64, place: u64) -> io::Result<()
 // An answer: 0 0 where the checks passed.
 pub(crate) fn show(rt: &impl Print, label: &[u8], answer: Check) -> io::Result<()> {
     match answer {
-        Check::Passed => line(rt, label, 0, 0),
-        Check::Refused(number, place) => line(rt, label, number, place),
+        Ok(()) => line(rt, label, 0, 0),
+        Err(refusal) => line(rt, label, refusal.number(), refusal.place() as u64),
     }
 }

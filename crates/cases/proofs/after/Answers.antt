@@ -1,13 +1,6 @@
--- Written by tools/proof-answers from proofs.map.
-use Rattle.std.proofs.Common.{rules}
-use Rattle.cases.specs.Cases.Code.{after_laws}
+-- Where no byte is found there is nothing past the end.
+use Rattle.cases.specs.Cases.Code.{place_none}
 use Rattle.cases.proofs.after.Goals as goal
 
-pub returns-then-s-i : goal.returns-then-s-i
-returns-then-s-i c = search (after_laws, rules)
-
-pub loop-i-preserved : goal.loop-i-preserved
-loop-i-preserved c = search (after_laws, rules)
-
-pub returns : goal.returns
-returns c = search (after_laws, rules)
+pub returns-in-None : goal.returns-in-None
+returns-in-None c = place_none c.args.b c.args.at c.args.s.now c.rest.ensures _ c.find.ensures.value c.in-None.is

@@ -1,51 +1,32 @@
--- One step of each definition.
+-- What stands before and after a byte in the library's words, and one step of the parts.
 -- Assumes nothing.
-use Rattle.std.specs.Prelude.{◌≡◌, refl, ℕ, zero, suc, ◌+◌, ◌-◌, ◌*◌, ◌%◌, ◌<◌, ◌≤◌, Bool, true, false, ◌⊎◌, List, [], ◌∷◌, eqb, length, drop, get_or}
-use Rattle.std.proofs.Common.{sym, ap, inl, inr, ⊎_elim, add-one, arith, drop_of_length-le}
-use borrow.Author.Tests.{eq-eqb, ne_eqb}
-use Rattle.std.proofs.Math.Seq.{drop-cons}
+use Rattle.std.specs.Prelude.{◌≡◌, refl, ℕ, zero, suc, ◌+◌, ◌-◌, ◌<◌, Bool, true, false, ◌⊎◌, List, [], ◌∷◌, ◌==◌, eqb, length, take, drop}
+use Rattle.std.specs.List.{before_first, after_first}
+use Rattle.std.proofs.Common.{sym, ap, ◌∙◌, inl, inr, ⊎_elim, arith}
 use Rattle.slices.specs.Choice.{cond_ind}
-use Rattle.cases.specs.Cases.{before, after, part, parts, digit, spelled}
+use Rattle.cases.specs.Cases.{before, after, part, parts}
 
-module _ (b : ℕ) (s : List ℕ) (i : ℕ) (h : i < length s) where
-  pub before_here : get_or s i 0 ≡ b → before b (drop i s) ≡ []
-  unfolding before
-  before_here e = rw (drop-cons s i 0 h, eq-eqb (get_or s i 0) b e)
+take_one_more : (n x : ℕ) (l : List ℕ) → take (1 + n) (x ∷ l) ≡ x ∷ take n l
+take_one_more n x l =
+    let e : 1 + n ≡ suc n = omega arith in
+    ap (λ k. take k (x ∷ l)) e
 
-  pub before_on : (get_or s i 0 ≡ b → ⊥) → before b (drop i s) ≡ get_or s i 0 ∷ before b (drop (i + 1) s)
-  unfolding before
-  before_on n = rw (add-one, drop-cons s i 0 h, ne_eqb (get_or s i 0) b n)
+drop_one_more : (n x : ℕ) (l : List ℕ) → drop (1 + n + 1) (x ∷ l) ≡ drop (n + 1) l
+drop_one_more n x l =
+    let e : 1 + n + 1 ≡ suc (n + 1) = omega arith in
+    ap (λ k. drop k (x ∷ l)) e
 
-  pub after_here : get_or s i 0 ≡ b → after b (drop i s) ≡ drop (i + 1) s
-  unfolding after
-  after_here e = rw (add-one, drop-cons s i 0 h, eq-eqb (get_or s i 0) b e)
+pub before_is : (b : ℕ) (l : List ℕ) → before b l ≡ before_first (λ x. x == b) l
+unfolding before
+before_is b [] = refl
+before_is b (x ∷ l) =
+    cond_ind (eqb x b) [] (x ∷ before b l) (λ r. r ≡ before_first (λ y. y == b) (x ∷ l)) (λ e. rw e refl) (λ e. rw e (ap (λ m. x ∷ m) (before_is b l) ∙ sym (take_one_more _ x l)))
 
-  pub after_on : (get_or s i 0 ≡ b → ⊥) → after b (drop i s) ≡ after b (drop (i + 1) s)
-  unfolding after
-  after_on n = rw (add-one, drop-cons s i 0 h, ne_eqb (get_or s i 0) b n)
-
-pub spelled_on : (v : ℕ) (s : List ℕ) (i : ℕ) → i < length s → spelled v (drop i s) ≡ spelled (v % 1152921504606846976 * 10 + digit (get_or s i 0)) (drop (i + 1) s)
-unfolding spelled
-spelled_on v s i h = rw (add-one, drop-cons s i 0 h)
-
--- ---- at the end
-
-module _ (s : List ℕ) (i : ℕ) (h : length s ≤ i) where
-  pub before_end : (b : ℕ) → before b (drop i s) ≡ []
-  unfolding before
-  before_end b = rw (drop_of_length-le s {i = i} h)
-
-  pub after_end : (b : ℕ) → after b (drop i s) ≡ []
-  unfolding after
-  after_end b = rw (drop_of_length-le s {i = i} h)
-
-  pub spelled_end : (v : ℕ) → spelled v (drop i s) ≡ v
-  unfolding spelled
-  spelled_end v = rw (drop_of_length-le s {i = i} h)
-
-  pub parts_end : (b : ℕ) → parts b (drop i s) ≡ 0
-  unfolding parts
-  parts_end b = rw (drop_of_length-le s {i = i} h)
+pub after_is : (b : ℕ) (l : List ℕ) → after b l ≡ after_first (λ x. x == b) l
+unfolding after
+after_is b [] = refl
+after_is b (x ∷ l) =
+    cond_ind (eqb x b) l (after b l) (λ r. r ≡ after_first (λ y. y == b) (x ∷ l)) (λ e. rw e refl) (λ e. rw e (after_is b l ∙ sym (drop_one_more _ x l)))
 
 -- ---- parts
 
@@ -65,11 +46,14 @@ true_or_false true = inl refl
 true_or_false false = inr refl
 
 -- one part less after the next `b`
-parts_cons : (b x : ℕ) (l : List ℕ) → parts b (x ∷ l) ≡ suc (parts b (after b (x ∷ l)))
+pub parts_on : (b : ℕ) (l : List ℕ) → 0 < length l → parts b l ≡ suc (parts b (after b l))
 unfolding parts after
-parts_cons b x [] = cond_ind (eqb x b) [] [] (λ (l : List ℕ). 1 ≡ suc (parts b l)) (λ e. refl) (λ e. refl)
-parts_cons b x (y ∷ l) =
-    ⊎_elim (λ (e : eqb x b ≡ true). rw e) (λ (e : eqb x b ≡ false). rw e (parts_cons b y l)) (true_or_false (eqb x b))
+parts_on b [] h = absurd (omega arith)
+parts_on b (x ∷ []) h = cond_ind (eqb x b) [] [] (λ (l : List ℕ). 1 ≡ suc (parts b l)) (λ e. refl) (λ e. refl)
+parts_on b (x ∷ y ∷ l) h =
+    ⊎_elim (λ (e : eqb x b ≡ true). rw e) (λ (e : eqb x b ≡ false). rw e (parts_on b (y ∷ l) (omega arith))) (true_or_false (eqb x b))
 
-pub parts_on : (b : ℕ) (s : List ℕ) (i : ℕ) → i < length s → parts b (drop i s) ≡ suc (parts b (after b (drop i s)))
-parts_on b s i h = rw (drop-cons s i 0 h) (parts_cons b (get_or s i 0) (drop (suc i) s))
+pub parts_end : (b : ℕ) (l : List ℕ) → length l ≡ 0 → parts b l ≡ 0
+unfolding parts
+parts_end b [] h = refl
+parts_end b (x ∷ l) h = absurd (omega arith)

@@ -1,6 +1,6 @@
 -- What the proofs of `lines` search.
 -- Assumes nothing.
-use Rattle.std.specs.Prelude.{◌≡◌, refl, take, drop}
+use Rattle.std.specs.Prelude.{◌≡◌, refl, take, drop, Option, Some, None}
 use Rattle.std.proofs.Common.{sym, ap, ◌∙◌}
 use Rattle.std.proofs.Math.Path.{subst}
 use Prim.Native.Nat.{ℕ, zero, suc, ◌+◌, ◌-◌, ◌≤◌, ◌<◌}
@@ -14,19 +14,15 @@ use Rattle.slices.specs.Splice.Laws.{splice_all}
 use Rattle.numbers.specs.Fixed.{big_bytes}
 use Rattle.numbers.specs.Fixed.Laws.{length_big_bytes}
 use Rattle.states.specs.declared.States.{States}
-use Rattle.states.specs.declared.States.TheVariants.{Two, Nine}
 use Rattle.records.specs.declared.Record.{Record}
 use Rattle.records.specs.declared.Record.TheVariants.{Time, Value, Real}
-use Rattle.event_streams.specs.declared.Next.{Next}
-use Rattle.event_streams.specs.declared.Next.TheVariants.{Event, End, Bad}
+use Rattle.event_streams.specs.Next.{Next, Event, End, Bad}
 use Rattle.event_streams.specs.Stream.{next_event, in_values}
 use Rattle.event_streams.proofs.Stream.Laws.{found_event, past_end}
 use Rattle.listing_text.specs.declared.lines.Progress.{Progress}
-use Rattle.listing_text.specs.declared.lines.Turn.{Turn}
-use Rattle.listing_text.specs.declared.lines.Turn.TheVariants.{More, Over}
 use Rattle.plain_text.specs.Text.{decimal, hex}
 use Rattle.plain_text.specs.Text.Laws.{Adds, adds_then, adds_none}
-use Rattle.listing_text.specs.Lines.{newline, space, time_word, two_word, nine_word, real_word, time_line, hex_line, pair_line, state_word, event_line, one_line, lines_from, event_lines}
+use Rattle.listing_text.specs.Lines.{newline, space, time_word, real_word, time_line, hex_line, pair_line, state_word, event_line, one_line, lines_from, event_lines}
 
 -- a word, with the space behind it, and a number
 unfoldable pub numbered : List ℕ → ℕ → List ℕ
@@ -53,13 +49,6 @@ module _ {t t₁ t₂ t₃ : List ℕ} {at i j k : ℕ} (w : List ℕ) (a b : �
   adds_two p q r =
       let pq : Adds t at (w ++ decimal a ++ space ++ decimal b) t₂ j = rw (append_assoc (w ++ decimal a) space (decimal b)) (adds_then p q) in
       adds_then pq r
-
-module _ {t t' : List ℕ} {at j : ℕ} (bs : List ℕ) (r : ℕ) {s : States} where
-  pub adds_two_state : s ≡ Two → Adds t at (hex_line two_word r bs) t' j → Adds t at (hex_line (state_word s) r bs) t' j
-  adds_two_state e a = rw e a
-
-  pub adds_nine_state : s ≡ Nine → Adds t at (hex_line nine_word r bs) t' j → Adds t at (hex_line (state_word s) r bs) t' j
-  adds_nine_state e a = rw e a
 
 module _ {t t' : List ℕ} {at j : ℕ} (b z : List ℕ) (r u : ℕ) where
   pub adds_real : length z ≡ 8 → b ≡ splice z 0 (big_bytes 8 u) → Adds t at (hex_line real_word r b) t' j → Adds t at (hex_line real_word r (big_bytes 8 u)) t' j
@@ -97,28 +86,28 @@ pub record On (events values t : List ℕ) (at : ℕ) (p : Progress) (t' : List 
   pub left : so ++ lines_from events values fuel p.read ≡ event_lines events values
   pub long : length t' ≡ length t
 
-abbrev pub Comes : (events values t : List ℕ) (p : Progress) (t' : List ℕ) → Turn → Type 0
-Comes events values t p t' (More q) = (e : Record) × (next_event events (length values) true p.read ≡ Event e q.read) × Adds t p.end (event_line values e) t' q.end
-Comes events values t p t' Over = ((more : ℕ → List ℕ) → one_line events values (next_event events (length values) true p.read) more ≡ []) × (t' ≡ t)
+abbrev pub Comes : (events values t : List ℕ) (p : Progress) (t' : List ℕ) → Option Progress → Type 0
+Comes events values t p t' (Some q) = (e : Record) × (next_event events (length values) true p.read ≡ Event e q.read) × Adds t p.end (event_line values e) t' q.end
+Comes events values t p t' None = ((more : ℕ → List ℕ) → one_line events values (next_event events (length values) true p.read) more ≡ []) × (t' ≡ t)
 
 -- a line was written, or there are no more
-pub record Turned (events values t : List ℕ) (p : Progress) (t' : List ℕ) (r : Turn) : Type 0 where
+pub record Turned (events values t : List ℕ) (p : Progress) (t' : List ℕ) (r : Option Progress) : Type 0 where
   pub comes : Comes events values t p t' r
 
 pub line_inside : (events values : List ℕ) (i : ℕ) {n : Next} → n ≡ next_event events (length values) true i → {e : Record} {j : ℕ} → n ≡ Event e j → in_values (length values) e ≡ true
 line_inside events values i u v = (found_event events (length values) true i (sym u ∙ v)).inside
 
 module _ (events values : List ℕ) {t : List ℕ} (p : Progress) {n : Next} (u : n ≡ next_event events (length values) true p.read) where
-  pub turned_end : n ≡ End → Turned events values t p t Over
+  pub turned_end : n ≡ End → Turned events values t p t None
   unfolding one_line
   turned_end e = record { comes = (λ more. rw (sym u ∙ e), refl) }
 
-  pub turned_bad : {a b : ℕ} → n ≡ Bad a b → Turned events values t p t Over
+  pub turned_bad : {a b : ℕ} → n ≡ Bad a b → Turned events values t p t None
   unfolding one_line
   turned_bad e = record { comes = (λ more. rw (sym u ∙ e), refl) }
 
   module _ {e : Record} {j : ℕ} (v : n ≡ Event e j) where
-    pub turned_more : {t' : List ℕ} {k : ℕ} → Adds t p.end (event_line values e) t' k → Turned events values t p t' (More (record { read = j; end = k }))
+    pub turned_more : {t' : List ℕ} {k : ℕ} → Adds t p.end (event_line values e) t' k → Turned events values t p t' (Some (record { read = j; end = k }))
     turned_more a = record { comes = (e, sym u ∙ v, a) }
 
 pub on_start : (events values t : List ℕ) (at : ℕ) → On events values t at (record { read = 0; end = at }) t
@@ -137,8 +126,8 @@ module _ {events values t t₁ : List ℕ} {at : ℕ} {p : Progress} (o : On eve
       go zero h e = (0, omega arith, rw (past_end events (length values) true p.read (omega arith)) e)
       go (suc f) h e = (f, h, e)
 
-  module _ {t₂ : List ℕ} {r : Turn} (a : Turned events values t₁ p t₂ r) where
-    pub on_more : {q : Progress} → r ≡ More q → On events values t at q t₂
+  module _ {t₂ : List ℕ} {r : Option Progress} (a : Turned events values t₁ p t₂ r) where
+    pub on_more : {q : Progress} → r ≡ Some q → On events values t at q t₂
     unfolding one_line
     on_more {q} e =
         let c = subst (Comes events values t₁ p t₂) e a.comes in
@@ -152,18 +141,18 @@ module _ {events values t t₁ : List ℕ} {at : ℕ} {p : Progress} (o : On eve
           long = c.2.long ∙ o.long;
         }
 
-    pub less : {q : Progress} → r ≡ More q → length events - q.read < length events - p.read
+    pub less : {q : Progress} → r ≡ Some q → length events - q.read < length events - p.read
     less e =
         let c = subst (Comes events values t₁ p t₂) e a.comes in
         let w = found_event events (length values) true p.read c.1 in omega (arith, w.ahead, w.within)
 
-    pub on_over : r ≡ Over → Adds t at (event_lines events values) t₂ p.end
+    pub on_over : r ≡ None → Adds t at (event_lines events values) t₂ p.end
     on_over e =
         let c = subst (Comes events values t₁ p t₂) e a.comes in
         let z : o.so ≡ event_lines events values = rw (c.0 (λ j. lines_from events values once.0 j), append-nil o.so) at once.2 in
         rw (← z, c.1) o.adds
 
-    pub over_long : r ≡ Over → length t₂ ≡ length t
+    pub over_long : r ≡ None → length t₂ ≡ length t
     over_long e = let c = subst (Comes events values t₁ p t₂) e a.comes in ap length c.1 ∙ o.long
 
 pub ruleset number_laws = (adds_number)
@@ -173,8 +162,6 @@ pub ruleset time_laws = (adds_time)
 pub ruleset hex_laws = (adds_hex)
 
 pub ruleset pair_laws = (adds_two)
-
-pub ruleset value_laws = (adds_two_state, adds_nine_state)
 
 pub ruleset real_laws = (adds_real)
 

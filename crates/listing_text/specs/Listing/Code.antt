@@ -1,16 +1,18 @@
 -- What the proofs of `list` and what it calls search.
 -- Assumes nothing.
-use Rattle.std.specs.Prelude.{◌≡◌, ℕ, ◌-◌, ◌≤◌, ◌<◌, min, Bool, List, length, take, drop}
-use Rattle.std.proofs.Common.{sym, subst, ◌∙◌, arith, le-leb, eq-eqb, ne_eqb, length-drop, length-take-le, take_all}
+use Rattle.std.specs.Prelude.{◌≡◌, ℕ, ◌≤◌, ◌<◌, min, Bool, List, length, take, drop, Err}
+use Rattle.std.proofs.Common.{sym, subst, ◌∙◌, arith, le-leb, eq-eqb, ne_eqb, length-take-le}
+use Rattle.refusals.specs.Numbers.{Numbered}
 use Rattle.std.proofs.Math.Path.{ap}
 use Rattle.std.proofs.lemmas.Bool.{lt-leb}
-use Rattle.tables.specs.Lists.{Lists}
+use Rattle.tables.specs.Lists.{Lists, lists}
 use Rattle.values.specs.Value.{ordinary}
 use Rattle.answers.specs.declared.Answer.{Answer}
 use Rattle.entries.specs.Entries.{read_sections}
 use Rattle.left_buffers.specs.Left.{left_of, lent_of}
-use Rattle.preamble.specs.declared.Opened.{Opened}
-use Rattle.preamble.specs.declared.Opened.TheVariants as opened
+use Rattle.listing_text.specs.declared.Tables.{Tables}
+use Rattle.preamble.specs.Opened.{OpenedFound}
+use Rattle.preamble.specs.Opened as opened
 use Rattle.plain_text.specs.Text.{Holds}
 use Rattle.plain_text.specs.Text.Laws.{Adds, adds_alone, adds_then, take_min, holds_fits, holds_front}
 use Rattle.listing_text.specs.Lines.{done_word, refused_word, pair_line, event_lines}
@@ -47,6 +49,9 @@ module _ (t : Lists) (flag : Bool) (s : List ℕ) {room room' : List ℕ} {r : �
 
 -- ---- the tables
 
+abbrev pub lists_of : Tables → Lists
+lists_of t = lists t.kinds.now t.refs.now t.vecs.now t.mins.now t.maxs.now t.states.now t.vec_refs.now
+
 -- the first entries of each array, and the section bytes, lie within them
 pub record Within (s : List ℕ) (m : Lists) (n v at : ℕ) : Type 0 where
   pub kinds : n ≤ length m.kinds
@@ -58,17 +63,12 @@ pub record Within (s : List ℕ) (m : Lists) (n v at : ℕ) : Type 0 where
   pub vec_refs : v ≤ length m.vec_refs
   pub rest : at ≤ length s
 
--- the section bytes, as a part of the input is written
-pub rest_is : {room room' : List ℕ} {r : ℕ} (s : List ℕ) (m : Lists) (n v at : ℕ) (flag : Bool) → Holds room (section_lines (up_to m n v) flag (take (length s - at) (drop at s))) room' r
-    → Holds room (section_lines (up_to m n v) flag (drop at s)) room' r
-rest_is s m n v at flag h = rw (take_all (length s - at) (drop at s) (omega (arith, length-drop at s))) at h
-
 -- ---- all of it
 
-says : (s : List ℕ) {m : Lists} {o : Opened} → Opens s m o → {q : Opened} → o ≡ q → OpensSays s m q
+says : (s : List ℕ) {m : Lists} {o : OpenedFound} → Opens s m o → {q : OpenedFound} → o ≡ q → OpensSays s m q
 says s {m} a e = subst (OpensSays s m) e a.says
 
-pub list_within : {s : List ℕ} {m : Lists} {o : Opened} → Opens s m o → {n v at : ℕ} {flag : Bool} → o ≡ opened.Sections n v flag at → Within s m n v at
+pub list_within : {s : List ℕ} {m : Lists} {o : OpenedFound} → Opens s m o → {n v at : ℕ} {flag : Bool} → o ≡ opened.Sections n v flag at → Within s m n v at
 list_within {s} a e =
     let c = says s a e in
     let z = a.sized in
@@ -92,10 +92,11 @@ module _ (s : List ℕ) {room room' : List ℕ} {r : ℕ} where
   unfolding listing
   list_short h p = rw (le-leb (length s) 32768 h) p
 
-  module _ {m : Lists} {o : Opened} (a : Opens s m o) where
-    pub short_refused : {n p p' : ℕ} → o ≡ opened.Refused n p → p' ≡ p → Holds room (pair_line refused_word n p') room' r → Holds room (after_preamble s (preamble s)) room' r
+  module _ {m : Lists} {o : OpenedFound} (a : Opens s m o) where
+    pub short_refused : {x : Numbered} → o ≡ Err x → {n p : ℕ} → n ≡ x.0 → {p' : ℕ} → p' ≡ p → p ≡ x.1 → Holds room (pair_line refused_word n p') room' r
+        → Holds room (after_preamble s (preamble s)) room' r
     unfolding after_preamble
-    short_refused e f d = rw (says s a e) (rw f at d)
+    short_refused e f g h d = rw (says s a e) (rw (f, g ∙ h) at d)
 
     pub short_opens : {n v at : ℕ} {flag : Bool} → o ≡ opened.Sections n v flag at → Holds room (section_lines (up_to m n v) flag (drop at s)) room' r → Holds room (after_preamble s (preamble s)) room' r
     unfolding after_preamble
@@ -104,8 +105,6 @@ module _ (s : List ℕ) {room room' : List ℕ} {r : ℕ} where
 pub ruleset refuse_laws = (refuse_alone)
 
 pub ruleset tell_laws = (front, told_refused, told_lines)
-
-pub ruleset table_laws = (front, rest_is)
 
 pub ruleset section_laws = (sections_told)
 

@@ -3,7 +3,7 @@
 use Rattle.std.specs.Prelude.{◌≡◌, Bool, leb, ltb, eqb, drop}
 use Rattle.std.proofs.Math.Path.{refl, sym, ap}
 use Rattle.std.proofs.Common.{◌∙◌, ltb-false, eqb-true}
-use Prim.Native.Nat.{ℕ, zero, suc, ◌+◌, ◌-◌, ◌*◌, ◌/◌, ◌^◌, ◌≤◌, ◌<◌}
+use Prim.Native.Nat.{ℕ, zero, suc, ◌+◌, ◌*◌, ◌/◌, ◌^◌, ◌≤◌, ◌<◌}
 use Rattle.std.proofs.Math.Bool.{true}
 use mathlib.Core.List.{List, [], ◌∷◌, ◌++◌, append_assoc, append-nil}
 use Rattle.std.proofs.Math.Nat.{pow-succ', mod-le}
@@ -20,8 +20,8 @@ use Rattle.states.specs.declared.States.TheVariants.{Two, Nine}
 use Rattle.values.specs.Value.{ordinary}
 use Rattle.records.specs.declared.Record.{Record}
 use Rattle.records.specs.declared.Record.TheVariants.{Time, Value, Real}
-use Rattle.event_streams.specs.declared.Next.{Next}
-use Rattle.event_streams.specs.declared.Next.TheVariants as next
+use Rattle.event_streams.specs.Next.{Next}
+use Rattle.event_streams.specs.Next as next
 use Rattle.records.specs.Event.{Event, time, value, real, kind_of, record_of, record_bytes, event_value}
 use Rattle.records.specs.Event.Laws.{length_time, length_value, length_real}
 use Rattle.event_streams.specs.Stream.{event_length, record_at, next_event}

@@ -1,7 +1,7 @@
 -- The working room that the listing lends always suffices: section reading never refuses with 6 there.
 -- Assumes nothing.
 use Rattle.std.proofs.Math.Path.{◌≡◌, refl, subst}
-use Prim.Native.Nat.{ℕ, zero, suc, ◌+◌, ◌-◌, ◌*◌, ◌≤◌}
+use Prim.Native.Nat.{ℕ, zero, suc, ◌+◌, ◌*◌, ◌≤◌}
 use Rattle.std.specs.Prelude.{Bool, cond, ◌≢◌, List, [], ◌∷◌, ◌++◌, length, drop}
 use Rattle.std.proofs.Math.Bool.{true, false}
 use Rattle.std.proofs.Math.Logic.{inl, inr}
@@ -19,16 +19,15 @@ use Rattle.tables.specs.Layout.Laws.{total_is}
 use Rattle.tables.specs.Good.{Sized, Ranged}
 use Rattle.tables.specs.Good.Laws.{sized, ranged, named}
 use Rattle.tables.specs.Checks.{unless, lowest, and_then, check1, check2, check3, check4, check5, check6, checks}
-use Rattle.tables.specs.declared.Check.{Check}
-use Rattle.tables.specs.declared.Check.TheVariants as checking
+use Rattle.tables.specs.Check.{Check}
+use Rattle.tables.specs.Check as checking
 use Rattle.values.specs.Value.{ordinary}
 use Rattle.section_scan.specs.Sections.{scan_sections}
 use Rattle.entries.specs.Entries.{read_sections}
 use Rattle.entries.specs.Entries.Reads.{Why}
 use Rattle.entries.specs.Entries.Scanned.{sections_scanned}
 use Rattle.entries.specs.Demands.{sections_2}
-use Rattle.preamble.specs.declared.Item.{Item}
-use Rattle.preamble.specs.declared.Item.TheVariants.{Signal, Vector, Sections, Refused}
+use Rattle.preamble.specs.Item.{ItemFound, Signal, Vector, Sections, Refused}
 use Rattle.preamble.specs.Preamble.{item_at, Opening, opens, refused, one_item, opening, preamble}
 use Rattle.listing_text.specs.Listing.{lends}
 
@@ -106,7 +105,7 @@ module _ (s : List ℕ) (t' : Lists) (flag : Bool) (at : ℕ) where
   abbrev Opens : Opening → Type 0
   Opens o = o ≡ opens t' flag at
 
-  one_few : (t : Lists) (i : ℕ) (n : Item) (more : Lists → ℕ → Opening) → ((u : Lists) (j : ℕ) → Opens (more u j) → Few u → Few t') → Opens (one_item t i n more) → Few t → Few t'
+  one_few : (t : Lists) (i : ℕ) (n : ItemFound) (more : Lists → ℕ → Opening) → ((u : Lists) (j : ℕ) → Opens (more u j) → Few u → Few t') → Opens (one_item t i n more) → Few t → Few t'
   unfolding one_item signals vectors
   one_few t i (Signal k r v j) more f e h = by (ltb (length t.kinds) 256) refl e
     where
