@@ -67,7 +67,7 @@ fn byte_write(kinds: &[u8], s: &[u8], id: usize, at: usize) -> Result<Change, Re
     let kind = signal_kind(kinds, id);
     let value_at = at + 5;
     if 4 < kind {
-        return Err(Refusal(Reason::Unsuited, at));
+        return Err(Refusal(Reason::Unsuited as u64, at));
     }
     let (value, next) = read_narrow(kind, s, value_at)?;
     Ok(Change::Write { id, value, next })
@@ -86,7 +86,7 @@ fn wide_write(kinds: &[u8], s: &[u8], id: usize, at: usize) -> Result<Change, Re
             next: at + 13,
         })
     } else {
-        Err(Refusal(Reason::Unsuited, at))
+        Err(Refusal(Reason::Unsuited as u64, at))
     }
 }
 
@@ -96,7 +96,7 @@ fn write_record(kinds: &[u8], s: &[u8], kind: u8, id: usize, at: usize) -> Resul
     ensures { result ≡ write_record (of_kinds kinds.now) s.now kind id at }
 {
     if kinds.len() < id {
-        return Err(Refusal(Reason::Id, at));
+        return Err(Refusal(Reason::Id as u64, at));
     }
     if 1 <= id {
         if kind == 2 {
@@ -104,7 +104,7 @@ fn write_record(kinds: &[u8], s: &[u8], kind: u8, id: usize, at: usize) -> Resul
         }
         return wide_write(kinds, s, id, at);
     }
-    Err(Refusal(Reason::Id, at))
+    Err(Refusal(Reason::Id as u64, at))
 }
 
 // A whole record of a known kind: 18, then what its kind asks.
@@ -114,7 +114,7 @@ fn in_order(kinds: &[u8], s: &[u8], inside: bool, kind: u8, at: usize) -> Result
 {
     if kind == 1 {
         if inside {
-            return Err(Refusal(Reason::Order, at));
+            return Err(Refusal(Reason::Order as u64, at));
         }
         return Ok(Change::Time(get_u64(s, at + 1), at + 9));
     }
@@ -124,7 +124,7 @@ fn in_order(kinds: &[u8], s: &[u8], inside: bool, kind: u8, at: usize) -> Result
         }
         return write_record(kinds, s, kind, id_at(s, at + 1), at);
     }
-    Err(Refusal(Reason::Order, at))
+    Err(Refusal(Reason::Order as u64, at))
 }
 
 // The record at a place within the input: 17, then 7, then the rest.
@@ -135,12 +135,12 @@ fn change_record(kinds: &[u8], s: &[u8], inside: bool, at: usize) -> Result<Chan
     let kind = s[at];
     let n = record_length(kind);
     if n == 0 {
-        return Err(Refusal(Reason::Kind, at));
+        return Err(Refusal(Reason::Kind as u64, at));
     }
     if n <= s.len() - at {
         return in_order(kinds, s, inside, kind, at);
     }
-    Err(Refusal(Reason::InputEnds, at))
+    Err(Refusal(Reason::InputEnds as u64, at))
 }
 
 // What stands at a place.
@@ -149,7 +149,7 @@ pub fn next_change(kinds: &[u8], s: &[u8], inside: bool, at: usize) -> Result<Ch
 {
     if s.len() <= at {
         if inside {
-            return Err(Refusal(Reason::InputEnds, at));
+            return Err(Refusal(Reason::InputEnds as u64, at));
         }
         return Ok(Change::End(at));
     }

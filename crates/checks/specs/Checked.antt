@@ -2,13 +2,9 @@
 -- Assumes nothing.
 use Rattle.std.proofs.Math.Path.{◌≡◌, refl, sym, ap}
 use Rattle.std.proofs.Common.{subst, ◌∙◌, le-leb}
-use Rattle.std.specs.Prelude.{ℕ, zero, suc, ◌≤◌, ◌<◌, Bool, true, false, Ok, Err}
+use Rattle.std.specs.Prelude.{ℕ, zero, suc, ◌≤◌, ◌<◌, Bool, true, false, Ok}
 use native.Mathlib.Omega.{arith}
 use Rattle.slices.specs.Choice.{cond_ind}
-use Rattle.refusals.specs.declared.Reason.{Reason}
-use Rattle.refusals.specs.declared.Reason.TheVariants.{RoomShort}
-use Rattle.refusals.specs.Numbers.{number_of, reason_of}
-use Rattle.refusals.specs.Laws.{same_reason}
 use Rattle.tables.specs.Lists.{Lists, vectors, signals}
 use Rattle.tables.specs.Checks.{unless, lowest, and_then, within_limit, good_vector, good_signal, names_all, check1, check2, check3, check4, check5, check6, checks}
 use Rattle.tables.specs.Checks.Laws.{then_passed}
@@ -97,17 +93,16 @@ module _ (t : Lists) (input out : ℕ) where
     pub checks_passed : {u : Unit {0}} → r ≡ Ok u → Passed ≡ checks_without_room t input out
     checks_passed {u = tt} d = (found Passed d).0 refl
 
-    -- a refusal is its number and its place to clauses, and to the code its reason and its place
-    module _ {why : Reason} {place : ℕ} {refusal : ℕ × ℕ} (is : (number_of why, place) ≡ refusal) (d : r ≡ Err refusal) where
-      pub checks_short : why ≡ RoomShort → Passed ≡ checks_without_room t input out
-      checks_short z = (found _ (d ∙ ap Err (sym is))).1 _ _ refl (ap number_of z)
+    module _ {n p : ℕ} (d : r ≡ Refused n p) where
+      pub checks_six : n ≡ 6 → Passed ≡ checks_without_room t input out
+      checks_six z = (found (Refused n p) d).1 n p refl z
 
-      pub checks_refused : (why ≡ RoomShort → ⊥) → Err refusal ≡ checks_without_room t input out
-      checks_refused z = ap Err (sym is) ∙ (found _ (d ∙ ap Err (sym is))).2 _ _ refl (λ six. z (sym (same_reason why) ∙ ap reason_of six))
+      pub checks_refused : (n ≡ 6 → ⊥) → Refused n p ≡ checks_without_room t input out
+      checks_refused z = (found (Refused n p) d).2 n p refl z
 
 -- all lengths within their limits pass alike
 pub without_alike : (t : Lists) (input out input' out' : ℕ) → input ≤ 16777215 → out ≤ 1073741823 → input' ≤ 16777215 → out' ≤ 1073741823 → checks_without_room t input out ≡ checks_without_room t input' out'
 unfolding checks_without_room check1 within_limit
 without_alike t input out input' out' a b c d = rw (le-leb input 16777215 a, le-leb out 1073741823 b, le-leb input' 16777215 c, le-leb out' 1073741823 d)
 
-pub ruleset checked_laws = (checks_passed, checks_short, checks_refused)
+pub ruleset checked_laws = (checks_passed, checks_six, checks_refused)

@@ -35,9 +35,11 @@ pub fn checks_without_room(tables: &Tables, input: usize, out: usize) -> Check
 {
     match checks(tables, input, out, 0, 0, 0) {
         Ok(()) => Ok(()),
-        Err(refusal) => match refusal.0 {
-            Reason::RoomShort => Ok(()),
-            _ => Err(refusal),
-        },
+        Err(refusal) => {
+            if refusal.number() == Reason::RoomShort.number() {
+                return Ok(());
+            }
+            Err(refusal)
+        }
     }
 }

@@ -68,13 +68,13 @@ fn check_flat(kinds: usize, refs: usize, vecs: usize, v: usize, flat: usize) -> 
     if within_limit(flat) {
         if v <= 16383 {
             if (refs == kinds) & (vecs == kinds) & (kinds <= 65535) {
-                return unless(4 * v <= flat, Refusal(Reason::RoomShort, 0));
+                return unless(4 * v <= flat, Refusal(Reason::RoomShort as u64, 0));
             }
-            return Err(Refusal(Reason::Lists, 0));
+            return Err(Refusal(Reason::Lists as u64, 0));
         }
-        return Err(Refusal(Reason::Lists, 0));
+        return Err(Refusal(Reason::Lists as u64, 0));
     }
-    Err(Refusal(Reason::BufferOverLimit, 0))
+    Err(Refusal(Reason::BufferOverLimit as u64, 0))
 }
 
 // The checks that come before any number is read.

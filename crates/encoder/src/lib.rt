@@ -109,7 +109,7 @@ fn take_event(s: &[u8], kept: &mut [u8], p: Progress, event: Record, next: usize
     let size = next - p.read;
     let n = room_taken(p.clock, event, size);
     if kept.len() - p.kept < n {
-        return ControlFlow::Break(Err(Refusal(Reason::Full, next)));
+        return ControlFlow::Break(Err(Refusal(Reason::Full as u64, next)));
     }
     copy_part(s, p.read, n, kept, p.kept);
     ControlFlow::Continue(Progress {

@@ -94,9 +94,9 @@ fn judge(values: usize, begun: bool, event: Record, at: usize, next: usize) -> N
         if in_values(values, event) {
             return Ok(Some((event, next)));
         }
-        return Err(Refusal(Reason::PastValues, at));
+        return Err(Refusal(Reason::PastValues as u64, at));
     }
-    Err(Refusal(Reason::Order, at))
+    Err(Refusal(Reason::Order as u64, at))
 }
 
 fn known_event(s: &[u8], values: usize, begun: bool, at: usize, size: usize) -> Next
@@ -104,7 +104,7 @@ fn known_event(s: &[u8], values: usize, begun: bool, at: usize, size: usize) -> 
     ensures { result ≡ next_event s.now values begun at }
 {
     if s.len() - at < size {
-        return Err(Refusal(Reason::InputEnds, at));
+        return Err(Refusal(Reason::InputEnds as u64, at));
     }
     judge(values, begun, record_at(s, at), at, at + size)
 }
@@ -119,7 +119,7 @@ pub fn next_event(s: &[u8], values: usize, begun: bool, at: usize) -> Next
     }
     let size = event_length(s[at]);
     if size == 0 {
-        return Err(Refusal(Reason::Kind, at));
+        return Err(Refusal(Reason::Kind as u64, at));
     }
     known_event(s, values, begun, at, size)
 }

@@ -61,7 +61,7 @@ fn finish(out: &mut [u8], count: usize, bench: Bench, read: usize, steps: u64) -
             count: written,
             steps,
         }),
-        None => Err(Refusal(Reason::Full, read)),
+        None => Err(Refusal(Reason::Full as u64, read)),
     }
 }
 

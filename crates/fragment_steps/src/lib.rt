@@ -31,7 +31,7 @@ fn count_fragment(
         Some(written) => seat(bench, watch, at, written),
         None => Stepped {
             bench,
-            put: Err(Refusal(Reason::Full, next)),
+            put: Err(Refusal(Reason::Full as u64, next)),
         },
     }
 }
@@ -77,7 +77,7 @@ fn drop_session(
         },
         None => Stepped {
             bench,
-            put: Err(Refusal(Reason::Full, next)),
+            put: Err(Refusal(Reason::Full as u64, next)),
         },
     }
 }

@@ -53,7 +53,7 @@ pub fn seat(bench: Bench, watch: Watch, at: usize, count: usize) -> Stepped
     }
     Stepped {
         bench,
-        put: Err(Refusal(Reason::Sessions, at)),
+        put: Err(Refusal(Reason::Sessions as u64, at)),
     }
 }
 

@@ -76,7 +76,7 @@ fn flag_at(s: &[u8], at: usize) -> Result<Item, Refusal>
     if flag <= 1 {
         return Ok(Item::Sections(flag == 1, at + 2));
     }
-    Err(Refusal(Reason::Kind, at))
+    Err(Refusal(Reason::Kind as u64, at))
 }
 
 fn whole_item(s: &[u8], at: usize) -> Result<Item, Refusal>
@@ -94,14 +94,14 @@ fn item_at(s: &[u8], at: usize) -> Result<Item, Refusal>
     ensures { result ≡ item_at s.now at }
 {
     if s.len() <= at {
-        return Err(Refusal(Reason::InputEnds, s.len()));
+        return Err(Refusal(Reason::InputEnds as u64, s.len()));
     }
     let size = item_length(s[at]);
     if size == 0 {
-        return Err(Refusal(Reason::Kind, at));
+        return Err(Refusal(Reason::Kind as u64, at));
     }
     if s.len() - at < size {
-        return Err(Refusal(Reason::InputEnds, at));
+        return Err(Refusal(Reason::InputEnds as u64, at));
     }
     whole_item(s, at)
 }
@@ -150,7 +150,7 @@ fn take_signal(
             at: next,
         });
     }
-    ControlFlow::Break(Err(Refusal(Reason::Lists, p.at)))
+    ControlFlow::Break(Err(Refusal(Reason::Lists as u64, p.at)))
 }
 
 // ".. or 65th vector".
@@ -180,7 +180,7 @@ fn take_vector(
             at: next,
         });
     }
-    ControlFlow::Break(Err(Refusal(Reason::Lists, p.at)))
+    ControlFlow::Break(Err(Refusal(Reason::Lists as u64, p.at)))
 }
 
 // One record.

@@ -52,7 +52,7 @@ pub fn check_names(tables: &Tables) -> Check
         best = stranger_in(tables, v, best);
     }
     if best <= tables.kinds.len() {
-        return Err(Refusal(Reason::Range, best));
+        return Err(Refusal(Reason::Range as u64, best));
     }
     Ok(())
 }

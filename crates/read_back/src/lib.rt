@@ -130,7 +130,7 @@ fn take_item(kinds: &[u8], out: &mut [u8], p: Progress, item: Item) -> Turn
             count,
             steps: p.steps + k,
         }),
-        None => ControlFlow::Break(Err(Refusal(Reason::Full, item.at))),
+        None => ControlFlow::Break(Err(Refusal(Reason::Full as u64, item.at))),
     }
 }
 

@@ -59,6 +59,6 @@ pub fn check_room(tables: &Tables, room: usize, list: usize) -> Check
 {
     unless(
         (total_bytes(tables) <= room) & (tables.mins.len() <= list),
-        Refusal(Reason::RoomShort, 0),
+        Refusal(Reason::RoomShort as u64, 0),
     )
 }

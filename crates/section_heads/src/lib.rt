@@ -101,9 +101,9 @@ pub fn open_snapshot(how: How, s: &[u8], at: usize) -> Item
             if is_mark(s, at, &ZEROS) {
                 return begins(next, read_i64(how.big_endian, s, at + 4), Phase::Each);
             }
-            bad(Refusal(Reason::Zeros, at))
+            bad(Refusal(Reason::Zeros as u64, at))
         }
-        None => bad(Refusal(Reason::InputEnds, at)),
+        None => bad(Refusal(Reason::InputEnds as u64, at)),
     }
 }
 
@@ -112,7 +112,7 @@ pub fn open_cycle(how: How, s: &[u8], at: usize) -> Item
 {
     match field_at(s, at, 8) {
         Some(next) => begins(next, read_i64(how.big_endian, s, at), Phase::Listed),
-        None => bad(Refusal(Reason::InputEnds, at)),
+        None => bad(Refusal(Reason::InputEnds as u64, at)),
     }
 }
 
@@ -122,9 +122,9 @@ pub fn open_directory(how: How, s: &[u8], at: usize) -> Item
     match field_at(s, at, 8) {
         Some(next) => match read_u32(how.big_endian, s, at + 4) {
             Some(n) => passes(next, Phase::Entries, n as usize),
-            None => bad(Refusal(Reason::Negative, at + 4)),
+            None => bad(Refusal(Reason::Negative as u64, at + 4)),
         },
-        None => bad(Refusal(Reason::InputEnds, at)),
+        None => bad(Refusal(Reason::InputEnds as u64, at)),
     }
 }
 
@@ -134,6 +134,6 @@ pub fn open_tailer(s: &[u8], at: usize) -> Item
 {
     match field_at(s, at, 8) {
         Some(next) => stops(next, Said::Over),
-        None => bad(Refusal(Reason::InputEnds, at)),
+        None => bad(Refusal(Reason::InputEnds as u64, at)),
     }
 }

@@ -22,9 +22,9 @@ pub fn end_item(s: &[u8], at: usize, mark: &[u8; 4]) -> Item
             if is_mark(s, at, mark) {
                 return passes(next, Phase::Mark, 0);
             }
-            bad(Refusal(Reason::EndMark, at))
+            bad(Refusal(Reason::EndMark as u64, at))
         }
-        None => bad(Refusal(Reason::InputEnds, at)),
+        None => bad(Refusal(Reason::InputEnds as u64, at)),
     }
 }
 
@@ -37,7 +37,7 @@ fn opened(how: How, s: &[u8], section: Section, mark: usize, at: usize) -> Item
         Section::Cycle => open_cycle(how, s, at),
         Section::Directory => open_directory(how, s, at),
         Section::Tailer => open_tailer(s, at),
-        Section::Unknown => bad(Refusal(Reason::Mark, mark)),
+        Section::Unknown => bad(Refusal(Reason::Mark as u64, mark)),
     }
 }
 
@@ -46,7 +46,7 @@ pub fn section_item(how: How, s: &[u8], at: usize) -> Item
 {
     match field_at(s, at, 4) {
         Some(next) => opened(how, s, section_at(s, at), at, next),
-        None => bad(Refusal(Reason::InputEnds, at)),
+        None => bad(Refusal(Reason::InputEnds as u64, at)),
     }
 }
 
@@ -60,10 +60,10 @@ pub fn entry_item(how: How, s: &[u8], left: usize, at: usize) -> Item
         Some(second) => match field_at(s, second, 4) {
             Some(next) => match read_u32(how.big_endian, s, second) {
                 Some(_) => passes(next, Phase::Entries, left - 1),
-                None => bad(Refusal(Reason::Negative, second)),
+                None => bad(Refusal(Reason::Negative as u64, second)),
             },
-            None => bad(Refusal(Reason::InputEnds, second)),
+            None => bad(Refusal(Reason::InputEnds as u64, second)),
         },
-        None => bad(Refusal(Reason::InputEnds, at)),
+        None => bad(Refusal(Reason::InputEnds as u64, at)),
     }
 }

@@ -26,7 +26,7 @@ fn gone(pen: Pen, next: usize, put: Option<usize>) -> Turn
             read: next,
             count,
         }),
-        None => ControlFlow::Break(Err(Refusal(Reason::Full, next))),
+        None => ControlFlow::Break(Err(Refusal(Reason::Full as u64, next))),
     }
 }
 
@@ -77,7 +77,7 @@ fn one_time(out: &mut [u8], p: Progress, big_endian: bool, u: u64, next: usize) 
             put_time(out, p.count, big_endian, pen, u),
         );
     }
-    ControlFlow::Break(Err(Refusal(Reason::TimeFalls, p.read)))
+    ControlFlow::Break(Err(Refusal(Reason::TimeFalls as u64, p.read)))
 }
 
 // A write: 22.
@@ -101,7 +101,7 @@ fn one_write(
             put_write(out, p.count, pen, kind, id, value, s, next),
         );
     }
-    ControlFlow::Break(Err(Refusal(Reason::IdsFall, p.read)))
+    ControlFlow::Break(Err(Refusal(Reason::IdsFall as u64, p.read)))
 }
 
 fn one_step_end(out: &mut [u8], p: Progress, next: usize) -> Turn
@@ -123,7 +123,7 @@ fn one_end(out: &mut [u8], p: Progress, next: usize) -> Turn
             count,
             steps: pen.steps,
         })),
-        None => ControlFlow::Break(Err(Refusal(Reason::Full, next))),
+        None => ControlFlow::Break(Err(Refusal(Reason::Full as u64, next))),
     }
 }
 

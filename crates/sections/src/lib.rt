@@ -24,7 +24,7 @@ pub fn next_id(kinds: &[u8], s: &[u8], id: usize, at: usize) -> Read
     if d as usize <= kinds.len() - id {
         Ok((id as u64 + d, next))
     } else {
-        Err(Refusal(Reason::Id, at))
+        Err(Refusal(Reason::Id as u64, at))
     }
 }
 
@@ -38,7 +38,7 @@ pub fn next_time(s: &[u8], u: u64, at: usize) -> Result<NextTime, Refusal>
     if d <= 0xffff_ffff_ffff_ffff - u {
         Ok(NextTime::Time(u + d, next))
     } else {
-        Err(Refusal(Reason::Time, at))
+        Err(Refusal(Reason::Time as u64, at))
     }
 }
 

@@ -176,7 +176,7 @@ fn see_value(
     if suits(line, states, count) {
         return Ok(Seen::More(show(values, watch, line, start, count), next));
     }
-    Err(Refusal(Reason::Bench, at))
+    Err(Refusal(Reason::Bench as u64, at))
 }
 
 // A real: 34 where it is of one of the three.
@@ -184,9 +184,9 @@ fn see_real(watch: Watch, line: Line, at: usize, next: usize) -> Result<Seen, Re
     ensures { result ≡ see_real watch line at next }
 {
     match line {
-        Line::Session => Err(Refusal(Reason::Bench, at)),
-        Line::Strobe => Err(Refusal(Reason::Bench, at)),
-        Line::Close => Err(Refusal(Reason::Bench, at)),
+        Line::Session => Err(Refusal(Reason::Bench as u64, at)),
+        Line::Strobe => Err(Refusal(Reason::Bench as u64, at)),
+        Line::Close => Err(Refusal(Reason::Bench as u64, at)),
         Line::Other => Ok(Seen::More(watch, next)),
     }
 }

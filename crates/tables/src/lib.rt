@@ -35,7 +35,7 @@ pub fn check_limits(input: usize, events: usize, values: usize, room: usize, lis
             & within_limit(values)
             & within_limit(room)
             & within_limit(list),
-        Refusal(Reason::BufferOverLimit, 0),
+        Refusal(Reason::BufferOverLimit as u64, 0),
     )
 }
 
@@ -73,7 +73,7 @@ impl<'a> Tables<'a> {
             & (self.vec_refs.len() == v);
         unless(
             equal & (n <= 65535) & (v <= 16383),
-            Refusal(Reason::Lists, 0),
+            Refusal(Reason::Lists as u64, 0),
         )
     }
 
@@ -98,7 +98,7 @@ impl<'a> Tables<'a> {
     {
         for v in 0..self.mins.len() {
             if !self.good_vector(v) {
-                return Err(Refusal(Reason::Vector, v + 1));
+                return Err(Refusal(Reason::Vector as u64, v + 1));
             }
         }
         Ok(())
@@ -141,7 +141,7 @@ impl<'a> Tables<'a> {
     {
         for i in 0..self.kinds.len() {
             if !self.good_signal(i) {
-                return Err(Refusal(Reason::Signal, i + 1));
+                return Err(Refusal(Reason::Signal as u64, i + 1));
             }
         }
         Ok(())

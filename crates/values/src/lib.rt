@@ -26,8 +26,8 @@ fn number(at: usize, found: Result<(u64, usize), LebError>) -> Read
     ensures { result ≡ number at found }
 {
     found.map_err(|error| match error {
-        LebError::Short => Refusal(Reason::InputEnds, at),
-        LebError::Large => Refusal(Reason::Leb128, at),
+        LebError::Short => Refusal(Reason::InputEnds as u64, at),
+        LebError::Large => Refusal(Reason::Leb128 as u64, at),
     })
 }
 
@@ -49,13 +49,13 @@ pub fn read_byte(s: &[u8], at: usize, most: u8) -> Read
     ensures { result ≡ byte_up_to most (λ b. b) s.now at }
 {
     if s.len() <= at {
-        return Err(Refusal(Reason::InputEnds, at));
+        return Err(Refusal(Reason::InputEnds as u64, at));
     }
     let b = s[at];
     if b <= most {
         Ok((u64_of_byte(b), at + 1))
     } else {
-        Err(Refusal(Reason::Value, at))
+        Err(Refusal(Reason::Value as u64, at))
     }
 }
 
@@ -64,13 +64,13 @@ pub fn read_nine_state(s: &[u8], at: usize) -> Read
     ensures { result ≡ byte_up_to 8 mapped s.now at }
 {
     if s.len() <= at {
-        return Err(Refusal(Reason::InputEnds, at));
+        return Err(Refusal(Reason::InputEnds as u64, at));
     }
     let b = s[at];
     if b <= 8 {
         Ok((u64_of_byte(std_logic(b)), at + 1))
     } else {
-        Err(Refusal(Reason::Value, at))
+        Err(Refusal(Reason::Value as u64, at))
     }
 }
 
@@ -91,7 +91,7 @@ pub fn read_real(how: How, s: &[u8], at: usize) -> Read
 {
     match field_at(s, at, 8) {
         Some(next) => Ok((read_i64(big_real(how), s, at), next)),
-        None => Err(Refusal(Reason::InputEnds, at)),
+        None => Err(Refusal(Reason::InputEnds as u64, at)),
     }
 }
 
