@@ -29,7 +29,7 @@ pub fn holds(out: &[u8], want: &[u8]) -> bool
 }
 
 // Whether a list holds zeros alone.
-#[tactic(auto, using(crate::specs::Held::Code::zero_all))]
+#[tactic(auto, using(crate::specs::Held::Code::zero_laws))]
 pub fn all_zero(list: &[u32]) -> bool
     ensures { result ≡ is_zero list.now }
 {

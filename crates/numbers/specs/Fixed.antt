@@ -27,6 +27,6 @@ big_bytes (suc n) v = v / 256 ^ n % 256 ∷ big_bytes n v
 unfoldable pub negative : ℕ → ℕ → Bool
 negative bits v = leb (2 ^ (bits - 1)) v
 
--- "None numbers are refused": a signed number of 32 bits, told apart by its sign
+-- "Negative numbers are refused": a signed number of 32 bits, told apart by its sign
 unfoldable pub positive : ℕ → Option ℕ
 positive v = cond (negative 32 v) None (Some v)

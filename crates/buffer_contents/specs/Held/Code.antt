@@ -1,10 +1,10 @@
 -- What the proofs search: by what a look at each number says, a buffer holds what it should.
 -- Assumes nothing.
-use Rattle.std.specs.Prelude.{◌≡◌, refl, ℕ, ◌-◌, Bool, true, false, ◌&&◌, ◌==◌, List, [], ◌∷◌, ◌++◌, length, take, drop, replicate}
+use Rattle.std.specs.Prelude.{◌≡◌, refl, ℕ, ◌-◌, ◌≤◌, ◌<◌, Bool, true, false, ◌&&◌, ◌==◌, List, [], ◌∷◌, ◌++◌, length, take, drop, replicate}
 use Rattle.std.specs.List.{list_all}
 use Rattle.std.specs.Str.{bytes_eq}
 use Rattle.std.proofs.Common.{sym, ap, ◌∙◌, arith, length-append, eq-eqb, true≢false}
-use Rattle.std.proofs.lemmas.List.{take-append-drop}
+use Rattle.std.proofs.lemmas.List.{take-append-drop, take_all}
 use Rattle.std.proofs.lemmas.Slice.Eq.{bytes_eq-Decides}
 use Rattle.std.proofs.Math.Seq.{take-append_seam}
 use Rattle.numbers.specs.Marks.{same}
@@ -25,7 +25,20 @@ pub zero_all : (l : List ℕ) {b : Bool} → b ≡ list_all (λ x. x == 0) l →
 unfolding is_zero
 zero_all l e = e ∙ zeros_same l
 
+-- the same where the look is at the first n numbers, and those are all
+pub zero_first : (l : List ℕ) (n : ℕ) {b : Bool} → length l ≤ n → b ≡ list_all (λ x. x == 0) (take n l) → b ≡ is_zero l
+zero_first l n h e = zero_all l (rw (take_all n l h) at e)
+
+pub ruleset zero_laws = (zero_all, zero_first)
+
 module _ (out want : List ℕ) where
+  -- an output with less room than the bytes need holds them not
+  pub held_short : {b : Bool} → length out < length want → b ≡ false → b ≡ is_held out want
+  unfolding is_held
+  held_short h e =
+      let zeros : List ℕ = replicate (length out - length want) 0 in
+      e ∙ sym (not_same _ _ (λ w. omega (arith, h, ap length w, length-append want zeros)))
+
   pub held_not : bytes_eq (take (length want) out) want ≡ false → false ≡ is_held out want
   unfolding is_held
   held_not e =
@@ -39,4 +52,4 @@ module _ (out want : List ℕ) where
       let long : length out - length want ≡ length rest = omega (arith, ap length whole, length-append want rest) in
       a ∙ (zeros_same rest ∙ (sym (same_front want rest (replicate (length rest) 0)) ∙ rw (long, whole) refl))
 
-pub ruleset held_laws = (held_not, held_all)
+pub ruleset held_laws = (held_short, held_not, held_all)
