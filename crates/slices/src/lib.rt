@@ -24,7 +24,10 @@ pub fn copy_part(src: &[u8], from: usize, count: usize, dst: &mut [u8], at: usiz
     requires { (from + count ≤ length src.now) × (at + count ≤ length dst.old) }
     ensures { dst.new ≡ splice dst.old at (part src.now from count) }
 {
-    dst[at..at + count].copy_from_slice(&src[from..from + count]);
+    // Not by `copy_from_slice`, which forgets that the two lie apart, and becomes a `memmove`.
+    for i in 0..count {
+        dst[at + i] = src[from + i];
+    }
 }
 
 // All of `bytes`, to `dst` at `at`.
@@ -32,7 +35,7 @@ pub fn write_at(dst: &mut [u8], at: usize, bytes: &[u8])
     requires { at + length bytes.now ≤ length dst.old }
     ensures { dst.new ≡ splice dst.old at bytes.now }
 {
-    dst[at..at + bytes.len()].copy_from_slice(bytes);
+    copy_part(bytes, 0, bytes.len(), dst, at);
 }
 
 // `count` elements of `dst` from `at` on become `zero`. Not by `fill`, which asks of a type parameter that its clone is a copy.

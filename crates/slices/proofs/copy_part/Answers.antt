@@ -1,7 +1,9 @@
--- Written by tools/proof-answers from proofs.map.
 use Rattle.std.proofs.Common.{rules}
 use Rattle.slices.specs.Splice.Writes.{copy_laws}
 use Rattle.slices.proofs.copy_part.Goals as goal
 
-pub returns : goal.returns
-returns c = search (copy_laws, rules)
+pub loop-i-init : goal.loop-i-init
+loop-i-init c = search (copy_laws, rules)
+
+pub loop-i-preserved : goal.loop-i-preserved
+loop-i-preserved c = search (copy_laws, rules)

@@ -116,3 +116,10 @@ set_splice l at v h = go (splice_snoc l at [] v (omega arith))
 pub get_d_part : (l : List ℕ) (at n j : ℕ) → j < n → get_or (part l at n) j 0 ≡ get_or l (at + j) 0
 unfolding part
 get_d_part l at n j h = rw (get_or-take, get_or-drop)
+
+-- a turn of a loop that copies
+pub copy_more : (d : List ℕ) (at : ℕ) (s : List ℕ) (from i : ℕ) → at + i < length d → from + i < length s → set (splice d at (part s from i)) (at + i) (get_or s (from + i) 0) ≡ splice d at (part s from (i + 1))
+copy_more d at s from i hd hs =
+    let n : length (part s from i) ≡ i = length_part s from i (omega arith) in
+    let h : at + length (part s from i) < length d = rw n hd in
+    rw (part_snoc s from i hs) (rw n at (splice_snoc d at (part s from i) (get_or s (from + i) 0) h))
