@@ -32,13 +32,6 @@ pub(crate) fn both(rt: &impl Print, label: &[u8], s: &[u8], at: usize) -> io::Re
     text::say(rt, b"\n")
 }
 
-fn read(s: &[u8], at: usize, signed: bool) -> Result<(u64, usize), LebError> {
-    if signed {
-        return leb128::signed(s, at);
-    }
-    leb128::unsigned(s, at)
-}
-
 // The 64 bits of a number below `size` whose upper half, where there is a sign, stands for negative numbers.
 fn with_sign(number: u64, size: u64, signed: bool) -> u64
     requires { (number < size) × (size ≤ 16384) }
@@ -63,18 +56,40 @@ fn found(r: Result<(u64, usize), LebError>, number: u64, place: usize) -> u64
     }
 }
 
+// The same of the reader that is asked for; each by a call of its own, so that what was read is never laid down.
+fn reads(s: &[u8], at: usize, signed: bool, number: u64, place: usize) -> u64
+    ensures { result ≤ 1 }
+{
+    if signed {
+        return found(leb128::signed(s, at), number, place);
+    }
+    found(leb128::unsigned(s, at), number, place)
+}
+
 fn one_byte(k: u64, signed: bool) -> u64
     ensures { result ≤ 1 }
 {
     let s = [(k % 128) as u8, 0x55];
-    found(read(&s, 0, signed), with_sign(k % 128, 128, signed), 1)
+    reads(&s, 0, signed, with_sign(k % 128, 128, signed), 1)
 }
 
 fn two_bytes(k: u64, signed: bool) -> u64
     ensures { result ≤ 1 }
 {
     let s = [0x55, (128 + k % 128) as u8, (k / 128 % 128) as u8, 0x55];
-    found(read(&s, 1, signed), with_sign(k % 16384, 16384, signed), 3)
+    reads(&s, 1, signed, with_sign(k % 16384, 16384, signed), 3)
+}
+
+// 1 where the input ends inside the number at its start.
+fn cut_off(s: &[u8], signed: bool) -> u64
+    ensures { result ≤ 1 }
+{
+    let short = if signed {
+        matches!(leb128::signed(s, 0), Err(LebError::Short))
+    } else {
+        matches!(leb128::unsigned(s, 0), Err(LebError::Short))
+    };
+    if short { 1 } else { 0 }
 }
 
 // A number of n + 1 bytes, of which the input has the first k.
@@ -84,11 +99,7 @@ fn cut(n: usize, k: usize, signed: bool) -> u64
 {
     let mut b = [0x80u8; 12];
     b[n] = 0;
-    if let Err(LebError::Short) = read(first_bytes(&b, k), 0, signed) {
-        1
-    } else {
-        0
-    }
+    cut_off(first_bytes(&b, k), signed)
 }
 
 // The vector `k` of those of one byte, of two bytes, or cut: 1 where it comes out right.

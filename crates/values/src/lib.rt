@@ -25,10 +25,11 @@ pub type Read = Result<(u64, usize), Refusal>;
 fn number(at: usize, found: Result<(u64, usize), LebError>) -> Read
     ensures { result ≡ number at found }
 {
-    found.map_err(|error| match error {
-        LebError::Short => Refusal(Reason::InputEnds as u64, at),
-        LebError::Large => Refusal(Reason::Leb128 as u64, at),
-    })
+    match found {
+        Ok(read) => Ok(read),
+        Err(LebError::Short) => Err(Refusal(Reason::InputEnds as u64, at)),
+        Err(LebError::Large) => Err(Refusal(Reason::Leb128 as u64, at)),
+    }
 }
 
 pub fn read_unsigned(s: &[u8], at: usize) -> Read
