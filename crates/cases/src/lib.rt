@@ -43,7 +43,7 @@ pub fn after(s: &[u8], b: u8, at: usize) -> usize
 {
     match find(rest(s, at), b) {
         Some(i) => at + i + 1,
-        None => s.len(),
+        None => at.max(s.len()),
     }
 }
 
