@@ -36,10 +36,11 @@ pub fn before(s: &[u8], b: u8) -> &[u8]
     split_once(s, b).0
 }
 
-// From a place, the next place after a `b`, or the end.
+// From a place, the next place after a `b`, or the end; never one before it.
 #[tactic(auto, using(crate::specs::Cases::Code::place_laws))]
 pub fn after(s: &[u8], b: u8, at: usize) -> usize
-    ensures { drop result s.now ≡ after b (drop at s.now) }
+    ensures place { drop result s.now ≡ after b (drop at s.now) }
+    ensures onward { at ≤ result }
 {
     match find(rest(s, at), b) {
         Some(i) => at + i + 1,

@@ -1,6 +1,6 @@
 -- How far the loops have come, and what the proofs search.
 -- Assumes nothing.
-use Rattle.std.specs.Prelude.{◌≡◌, refl, ℕ, zero, suc, ◌+◌, ◌-◌, ◌*◌, ◌/◌, ◌%◌, ◌<◌, ◌≤◌, Bool, true, false, eqb, ◌==◌, List, [], ◌∷◌, length, take, drop, set, min, max, Option, Some, None, ltb}
+use Rattle.std.specs.Prelude.{◌≡◌, refl, ℕ, zero, suc, ◌+◌, ◌-◌, ◌*◌, ◌/◌, ◌%◌, ◌<◌, ◌≤◌, Bool, true, false, eqb, ◌==◌, List, [], ◌∷◌, length, take, drop, set, min, Option, Some, None, ltb}
 use Rattle.std.specs.List.{position, position_or_len, slice_split, onto_first, slice_get, fold}
 use Rattle.std.specs.Option.{unwrap_or, option_map}
 use denote.Ref.{Bor}
@@ -10,7 +10,6 @@ use Rattle.std.proofs.lemmas.List.{drop-drop}
 use Rattle.std.proofs.lemmas.Option.{unwrap_or-slice_get}
 use native.Mathlib.Omega.{arith}
 use borrow.Author.Count.{below_more}
-use Rattle.std.proofs.Math.Nat.{le-max_right}
 use Rattle.std.proofs.Math.ListN.{get_or, length-set}
 use Rattle.std.proofs.Math.Seq.{get_or-set_other}
 use Rattle.slices.specs.Choice.{cond_ind}
@@ -64,10 +63,10 @@ module _ (b at : ℕ) (s : List ℕ) {l : List ℕ} (p : l ≡ drop at s) where
       let one : at + (i + 1) ≡ at + i + 1 = omega arith in
       ap (λ n. drop n s) (sym one) ∙ (sym (drop-drop (i + 1) at s) ∙ (ap (drop (i + 1)) (sym p) ∙ (some_after b l e ∙ ap (after b) p)))
 
-  pub place_none : (o : Option ℕ) → o ≡ position (λ x. x == b) l → o ≡ None → {n : ℕ} → n ≡ max at (length s) → drop n s ≡ after b (drop at s)
+  pub place_none : (o : Option ℕ) → o ≡ position (λ x. x == b) l → o ≡ None → {n : ℕ} → length s ≤ n → drop n s ≡ after b (drop at s)
   place_none o q f {n} h =
       let e = sym q ∙ f in
-      drop_of_length-le s {i = n} (omega (arith, h, le-max_right at (length s))) ∙ (none_after b l e ∙ ap (after b) p)
+      drop_of_length-le s {i = n} h ∙ (none_after b l e ∙ ap (after b) p)
 
 pub ruleset place_laws = (place_some, place_none)
 
